@@ -1,0 +1,4 @@
+pub mod ComponentsLemmas
+pub mod DigitsLemmas
+pub mod LawsLemmas
+pub mod PlacesLemmas
