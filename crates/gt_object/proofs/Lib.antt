@@ -1,0 +1,12 @@
+pub mod Loops
+pub mod Parts
+pub mod HeaderLaws
+pub mod Rest
+pub mod Noting
+pub mod TreeLaws
+pub mod Submodules
+pub mod LineLaws
+pub mod WholeLaws
+pub mod CommitLaws
+pub mod TagLaws
+pub mod PlaceLaws

@@ -1,0 +1,9 @@
+pub mod Header
+pub mod Trees
+pub mod Lines
+pub mod Grammar
+pub mod Mentions
+pub mod Whole
+pub mod Finds
+pub mod Agrees
+pub mod Laws
