@@ -1,0 +1,4 @@
+pub mod Consumed
+pub mod Failing
+pub mod Places
+pub mod Written

@@ -1,0 +1,29 @@
+//! The outside as traits: input, output and the disks, each with a count of faults. And objects in memory for each.
+#![tactic(auto)]
+
+mod failing;
+mod host;
+mod mem_host;
+mod mem_sink;
+mod mem_source;
+mod place;
+mod reading;
+mod sink;
+mod source;
+mod steady_sink;
+mod steady_source;
+mod writing;
+
+pub use host::Host;
+pub use mem_host::MemHost;
+pub use mem_sink::MemSink;
+pub use mem_source::MemSource;
+pub use reading::{ReadError, read_whole};
+pub use sink::Sink;
+pub use source::Source;
+pub use steady_sink::SteadySink;
+pub use steady_source::SteadySource;
+pub use writing::write_whole;
+
+#[cfg(test)]
+mod tests;

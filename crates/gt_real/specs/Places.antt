@@ -1,0 +1,11 @@
+use Rattle.std.specs.Prelude.{ℕ, Bool, false, List, slice_get}
+use Rattle.std.specs.Option.{option_map_or}
+use Rattle.gt_real.specs.declared.place.Place.{Place}
+
+-- whether the disk of this number is out
+abbrev pub is_out_at : List Place → ℕ → Bool
+is_out_at places n = option_map_or (λ place. place.is_out) (slice_get places n) false
+
+-- the count of faults of the disk of this number
+abbrev pub faults_at : List Place → ℕ → ℕ
+faults_at places n = option_map_or (λ place. place.faults) (slice_get places n) 0

@@ -1,0 +1,23 @@
+//! The real outside: folders as disks, standard input and standard output. They tell nothing of content: what the system
+//! does with a call is trusted, and tested once.
+#![tactic(auto)]
+
+mod counting;
+mod filling;
+mod folder_disk;
+mod folder_host;
+mod kept;
+mod making;
+mod names;
+mod naming;
+mod place;
+mod standard_input;
+mod standard_output;
+
+pub use folder_disk::FolderDisk;
+pub use folder_host::FolderHost;
+pub use standard_input::StandardInput;
+pub use standard_output::StandardOutput;
+
+#[cfg(test)]
+mod tests;
