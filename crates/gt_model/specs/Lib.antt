@@ -1,0 +1,4 @@
+pub mod Contents
+pub mod Machine
+pub mod Histories
+pub mod Usual

@@ -1,0 +1,224 @@
+-- How a history goes on.
+use Rattle.std.proofs.Common.{◌≡◌, ◌⊎◌, inl, inr, ⊎_elim, ℕ, ◌+◌, ◌≤◌, List, [], ◌∷◌, ◌++◌, length, map, reverse, Option, Some, None, Result, Ok, Err, refl, sym, ◌∙◌, ap, subst, arith, IsTrue, length-append, append_assoc, IfOk, IfErr, ◌-◌, ◌^◌, min, Bool, true, false}
+use Rattle.std.specs.Prelude.{if◌then◌else◌}
+use Rattle.std.proofs.lemmas.Bool.{cases_lt}
+use Rattle.std.proofs.lemmas.List.{reverse-append, length-map}
+use Rattle.gt_disk.specs.Files.{Files, States, View, now, IsImage, still, Quiet, Rose}
+use Rattle.gt_disk.specs.Moments.{Since, Narrows}
+use Rattle.gt_log.specs.declared.mount_error.MountError.{MountError}
+use Rattle.gt_log.specs.Log.{Stands, KeepsEntries, Recovers, entry_file}
+use Rattle.gt_log.proofs.Images.{image_still}
+use Rattle.gt_model.specs.declared.entry.Entry.{Entry}
+use Rattle.gt_model.specs.declared.limits.Limits.{Limits}
+use Rattle.gt_model.specs.declared.turn.Turn.{Turn}
+use Rattle.gt_model.specs.Contents.{nothing, IsLegal}
+use Rattle.gt_model.specs.Machine.{State, sure, line, Settles, Step, is_faulty}
+use Rattle.gt_model.specs.Histories.{Happening, event, opened, last_tick, last_state}
+use Rattle.gt_part.specs.Spelling.{encode}
+use Rattle.gt_part.specs.Recovery.{recover, KeepsFiles, IsGood}
+use Rattle.gt_part.specs.Stored.{Gives, GivesThis, GivesEither, FilesHave, Stored, Moves}
+use Rattle.gt_part.specs.Crash.{CrashAt, Holds}
+use Rattle.gt_part.specs.Shown.{Shown, IsRun, HasRun, Continues, OneOpening, KeepsPast, faults_in}
+use Rattle.gt_part.specs.Mounts.{Mounts}
+use Rattle.gt_part.proofs.Recovering.{IsRecovered, recovered, map_last}
+use Rattle.gt_part.proofs.Events.{stored_gives}
+use Rattle.gt_part.proofs.Safe.{safe, safe_after, run_past}
+
+reverse-push : (trail : List Turn) (turn : Turn) → turn ∷ reverse trail ≡ reverse (trail ++ turn ∷ [])
+reverse-push trail turn = sym (reverse-append trail (turn ∷ []))
+
+pub event_more : (limits : Limits) → (start : State) (begin : ℕ) (history : List Happening) (v w : View) (s new : State) (trail : List Turn) (turn : Turn) → turn.tick ≡ w.clock → IsRun limits start begin history v s trail
+    → Step limits s turn.event turn.answer new → Moves limits s new v w → IsRun limits start begin (event turn new ∷ history) w new (trail ++ turn ∷ [])
+event_more limits start begin history v w s new trail turn tick_is run step moves =
+    let m = moves run.stored in
+    let since : Since (GivesEither limits s new) v w = m.1 in
+    let u_is : last_tick begin history ≡ v.clock = run.clock in
+    record {
+      stored = m.0;
+      run = (
+        run_past limits start begin v.at w.at history (λ k le. since.past k (omega (arith, le, u_is))) run.run,
+        subst (λ (x : State). Step limits x turn.event turn.answer new) (sym run.leads) step,
+        record {
+          later = omega (arith, u_is, tick_is, since.later);
+          during = λ k lt le. subst (λ (x : State). GivesEither limits x new (w.at k)) (sym run.leads) (since.each k (omega (arith, lt, u_is)) (omega (arith, le, tick_is)));
+          end = subst (λ (k : ℕ). GivesThis limits new (w.at k)) (sym tick_is) (stored_gives limits new (now w) m.0);
+        },
+      );
+      events = ap (λ (l : List Turn). turn ∷ l) run.events ∙ reverse-push trail turn;
+      leads = refl;
+      clock = tick_is;
+    }
+
+pub past_since : (P : States → Type 0) (v w : View) → Since P v w → KeepsPast v w
+past_since P v w s = record { clock = s.later; at = s.past }
+
+pub past_same : (v : View) → KeepsPast v v
+past_same v = record { clock = omega arith; at = λ m le. refl }
+
+pub past_join : (u v w : View) → KeepsPast u v → KeepsPast v w → KeepsPast u w
+past_join u v w p q = record { clock = omega (arith, p.clock, q.clock); at = λ m le. q.at m (omega (arith, p.clock)) ∙ p.at m le }
+
+pub past_event : (limits : Limits) → (start : State) (begin : ℕ) (history : List Happening) (v w : View) (s new : State) (trail : List Turn) → IsRun limits start begin history v s trail → Moves limits s new v w → KeepsPast v w
+past_event limits start begin history v w s new trail run moves = past_since (GivesEither limits s new) v w (moves run.stored).1
+
+-- ---- what a run says of the disk
+
+keeps : (log : List Entry) (states : States) → KeepsEntries (map encode log) states → KeepsFiles log states
+keeps log states each k lt = (_, each k (omega (arith, lt, length-map log encode)))
+
+keeps_front : (log : List Entry) (u : Entry) (states : States) → KeepsFiles (log ++ u ∷ []) states → KeepsFiles log states
+keeps_front log u states each k lt = each k (omega (arith, lt, length-append log (u ∷ [])))
+
+pub stored_good : (limits : Limits) → (s : State) (states : States) → Stored limits s states → IsGood limits states
+stored_good limits s states stored image is = by s.log s.doubt stored.files (stored_gives limits s states stored image is)
+  where
+    by : (log : List Entry) (doubt : Option Entry) → FilesHave log doubt states → Gives limits (record { log = log; doubt = doubt }) image → (l : List Entry) × (recover limits image ≡ Ok l) × KeepsFiles l states
+    by log None files (inl r) = (log, r, keeps log states files.each)
+    by log None files (inr r) = (log, r, keeps log states files.each)
+    by log (Some u) files (inl r) = (log, r, keeps_front log u states (keeps (log ++ u ∷ []) states (subst (λ (e : List (List ℕ)). KeepsEntries e states) (sym (map_last log u)) files.each)))
+    by log (Some u) files (inr r) = (log ++ u ∷ [], r, keeps (log ++ u ∷ []) states (subst (λ (e : List (List ℕ)). KeepsEntries e states) (sym (map_last log u)) files.each))
+
+pub holds_now : (limits : Limits) (start : State) (begin : ℕ) (history : List Happening) (v : View) (s : State) (trail : List Turn) → IsRun limits start begin history v s trail → Holds limits start begin history v
+holds_now limits start begin history v s trail run = record {
+  run = run.run;
+  crash = λ m ge le image is. safe limits start begin v.at history run.run m ge (omega (arith, le, run.clock)) image is;
+  ends = subst (λ (x : State). GivesThis limits x (now v)) (sym run.leads) (stored_gives limits s (now v) run.stored);
+}
+
+-- time went on, and no stop can leave anything new
+pub holds_later : (limits : Limits) (start : State) (begin : ℕ) (history : List Happening) (v w : View) (s : State) (trail : List Turn) → IsRun limits start begin history v s trail → Narrows v w → Holds limits start begin history w
+holds_later limits start begin history v w s trail run narrows =
+    let u_is : last_tick begin history ≡ v.clock = run.clock in
+    let before = holds_now limits start begin history v s trail run in
+    let gives : GivesThis limits (last_state start history) (now v) = before.ends in
+    let old_image : (m : ℕ) → v.clock ≤ m → m ≤ w.clock → (image : Files) → IsImage (w.at m) image → IsImage (now v) image = λ m ge le image is. ⊎_elim
+    (λ lt. narrows.each m lt le image is)
+    (λ not. let same : m ≡ v.clock = omega (arith, not, ge) in subst (λ (x : States). IsImage x image) (ap (λ (k : ℕ). w.at k) same ∙ narrows.past v.clock (omega arith)) is)
+    (cases_lt v.clock m) in
+    record {
+      run = run_past limits start begin v.at w.at history (λ k le. narrows.past k (omega (arith, le, u_is))) run.run;
+      crash = λ m ge le image is. ⊎_elim
+          (λ lt. safe_after limits start begin v.at history run.run m (omega (arith, lt, u_is)) image (gives image (narrows.each m lt le image is)))
+          (λ not. before.crash m ge (omega (arith, not)) image (subst (λ (x : States). IsImage x image) (narrows.past m (omega (arith, not))) is))
+          (cases_lt v.clock m);
+      ends = λ image is. gives image (old_image w.clock narrows.later (omega arith) image is);
+    }
+
+pub continues : {D : Type 0} (view : D → View) (start : State) (begin : ℕ) (history : List Happening) (P : List Happening → Type 0) (later : List Happening) (old p : Shown D) → p.limits ≡ old.limits → P later → KeepsPast (view old.disk) (view p.disk) → HasRun view start begin (later ++ history) p → Continues view start begin history P old p
+continues view start begin history P later old p limits this past run = record { later = later; past = past; limits = limits; this = this; run = run; holds = subst (λ (l : Limits). Holds l start begin (later ++ history) (view p.disk)) limits (holds_now p.limits start begin (later ++ history) (view p.disk) p.state p.trail run); good = subst (λ (l : Limits). IsGood l (now (view p.disk))) limits (stored_good p.limits p.state (now (view p.disk)) run.stored) }
+
+-- ---- openings
+
+-- what a good disk shows is still
+pub good_entries : (limits : Limits) → (v : View) (log : List Entry) → IsImage (now v) v.reads → IsGood limits (now v) → recover limits v.reads ≡ Ok log → Recovers v.reads (map encode log) × KeepsEntries (map encode log) (now v) × IsLegal nothing 1 log × (length log ≤ limits.positions)
+good_entries limits v log shows good is =
+    let g = good v.reads shows in
+    let r = recovered limits v.reads log is in
+    let ok : Ok g.0 ≡ Ok log = sym g.1 ∙ is in
+    let same : g.0 ≡ log = cc ok in (
+      r.files,
+      (λ k lt.
+          let at = g.2 k (omega (arith, lt, length-map log encode, ap (λ (l : List Entry). length l) same)) in
+          at.1 ∙ ap still (sym (image_still (now v) v.reads (entry_file (k + 1)) at.0 shows at.1) ∙ r.files.each k lt)),
+      r.legal,
+      r.within,
+    )
+
+pub opened_stored : (limits : Limits) → (v w x : View) (log : List Entry) → IsImage (now v) v.reads → IsGood limits (now v) → recover limits v.reads ≡ Ok log
+    → ((entries : List (List ℕ)) → Recovers v.reads entries → KeepsEntries entries (now v) → Stands entries (now w)) → Quiet w x → Stored limits (sure log) (now x)
+opened_stored limits v w x log shows good is stands quiet =
+    let e = good_entries limits v log shows good is in
+    let here : now x ≡ now w = ap (λ (k : ℕ). x.at k) quiet.clock ∙ ap (λ (a : ℕ → States). a w.clock) quiet.at in
+    record { files = subst (λ (s : States). Stands (map encode log) s) (sym here) (stands (map encode log) e.0 e.1); legal = e.2; within = e.3 }
+
+pub first_opened : (limits : Limits) → (x : View) (s : State) → Stored limits s (now x) → IsRun limits s x.clock [] x s []
+first_opened limits x s stored = record { stored = stored; run = stored_gives limits s (now x) stored; events = refl; leads = refl; clock = refl }
+
+pub settled_by : (limits : Limits) → (s : State) (v : View) (log : List Entry) → Stored limits s (now v) → IsImage (now v) v.reads → recover limits v.reads ≡ Ok log → Settles s (sure log)
+settled_by limits s v log stored shows is = ⊎_elim
+    (λ r. let ok : Ok log ≡ Ok s.log = sym is ∙ r in let same : log ≡ s.log = cc ok in inl (ap sure same))
+    (λ r. let ok : Ok log ≡ Ok (line s) = sym is ∙ r in let same : log ≡ line s = cc ok in inr (ap sure same))
+    (stored_gives limits s (now v) stored v.reads shows)
+
+pub opened_more : (limits : Limits) → (start : State) (begin : ℕ) (history : List Happening) (v w : View) (s new : State) (trail : List Turn) → IsRun limits start begin history v s trail
+    → Settles s new → Narrows v w → Stored limits new (now w) → IsRun limits start begin (opened w.clock new ∷ history) w new []
+opened_more limits start begin history v w s new trail run settles narrows stored =
+    let u_is : last_tick begin history ≡ v.clock = run.clock in
+    record {
+      stored = stored;
+      run = (
+        run_past limits start begin v.at w.at history (λ k le. narrows.past k (omega (arith, le, u_is))) run.run,
+        subst (λ (x : State). Settles x new) (sym run.leads) settles,
+        record {
+          later = omega (arith, u_is, narrows.later);
+          during = λ k lt le. subst (λ (x : State). GivesEither limits x new (w.at k)) (sym run.leads) (λ image is. inl (stored_gives limits s (now v) run.stored image (narrows.each k (omega (arith, lt, u_is)) le image is)));
+          end = stored_gives limits new (now w) stored;
+        },
+      );
+      events = refl;
+      leads = refl;
+      clock = refl;
+    }
+
+pub trail_same : (limits : Limits) → (start : State) (begin : ℕ) (history : List Happening) (v : View) (s t : State) (trail new : List Turn) → t ≡ s → new ≡ trail → IsRun limits start begin history v s trail → IsRun limits start begin history v t new
+trail_same limits start begin history v s t trail new same is run = subst (λ (x : State). IsRun limits start begin history v x new) (sym same) (subst (λ (l : List Turn). IsRun limits start begin history v s l) (sym is) run)
+
+module _ {D : Type 0} (view : D → View) (start : State) (begin : ℕ) (history : List Happening) (old : Shown D) (disk : D) (same : disk ≡ old.disk) (shows : IsImage (now (view old.disk)) (view old.disk).reads) (run : HasRun view start begin history old) where
+  reopened : (p : Shown D) → p.limits ≡ old.limits → Mounts (recover old.limits (view disk).reads) (Ok p) → p.trail ≡ [] → Narrows (view disk) (view p.disk) → (IsGood old.limits (now (view disk)) → HasRun view p.state (view p.disk).clock [] p)
+      → Settles old.state p.state × Continues view start begin history (OneOpening (view p.disk).clock p.state) old p
+  reopened p limits mounts empty narrows good =
+      let v = view old.disk in
+      let is : recover old.limits v.reads ≡ Ok mounts.0 = ap (λ (d : D). recover old.limits (view d).reads) (sym same) ∙ mounts.1 in
+      let settles : Settles old.state p.state = subst (λ (s : State). Settles old.state s) (sym mounts.2) (settled_by old.limits old.state v mounts.0 run.stored shows is) in
+      let here : IsGood old.limits (now (view disk)) = subst (λ (d : D). IsGood old.limits (now (view d))) (sym same) (stored_good old.limits old.state (now v) run.stored) in
+      let narrowed : Narrows v (view p.disk) = subst (λ (d : D). Narrows (view d) (view p.disk)) same narrows in
+      let stored : Stored old.limits p.state (now (view p.disk)) = subst (λ (l : Limits). Stored l p.state (now (view p.disk))) limits (good here).stored in
+      let more = opened_more old.limits start begin history v (view p.disk) old.state p.state old.trail run settles narrowed stored in
+      let whole = trail_same old.limits start begin (opened (view p.disk).clock p.state ∷ history) (view p.disk) p.state p.state [] p.trail refl empty more in
+      (settles, continues view start begin history (OneOpening (view p.disk).clock p.state) (opened (view p.disk).clock p.state ∷ []) old p limits refl (past_since _ v (view p.disk) narrowed) (subst (λ (l : Limits). IsRun l start begin (opened (view p.disk).clock p.state ∷ history) (view p.disk) p.state p.trail) (sym limits) whole))
+
+  pub restarted : (result : Result (Shown D) (MountError D)) → IfOk result (λ p. p.limits ≡ old.limits) → Mounts (recover old.limits (view disk).reads) result → IfOk result (λ p. p.trail ≡ []) → IfOk result (λ p. Narrows (view disk) (view p.disk))
+      → (IsGood old.limits (now (view disk)) → IfOk result (λ p. HasRun view p.state (view p.disk).clock [] p))
+      → IfOk result (λ p. Settles old.state p.state) × IfOk result (λ p. Continues view start begin history (OneOpening (view p.disk).clock p.state) old p)
+  restarted (Err e) limits mounts empty narrows good = (tt, tt)
+  restarted (Ok p) limits mounts empty narrows good = reopened p limits mounts empty narrows good
+
+  abbrev Reopens : Limits → ℕ → Type 0
+  Reopens limits number =
+      (result : Result (Shown D) (MountError D)) → IfOk result (λ p. (p.number ≡ number) × (p.limits ≡ limits)) → Mounts (recover limits (view disk).reads) result → IfOk result (λ p. p.trail ≡ []) → IfOk result (λ p. Narrows (view disk) (view p.disk))
+      → (IsGood limits (now (view disk)) → IfOk result (λ p. HasRun view p.state (view p.disk).clock [] p))
+      → IfOk result (λ p. Settles old.state p.state) × IfOk result (λ p. Continues view start begin history (OneOpening (view p.disk).clock p.state) old p)
+
+  kept_limits : (limits : Limits) (number : ℕ) (result : Result (Shown D) (MountError D)) → IfOk result (λ p. (p.number ≡ number) × (p.limits ≡ limits)) → IfOk result (λ p. p.limits ≡ limits)
+  kept_limits limits number (Err e) kept = tt
+  kept_limits limits number (Ok p) kept = kept.1
+
+  pub restarted_by : (limits : Limits) (number : ℕ) → limits ≡ old.limits → Reopens limits number
+  restarted_by limits number is = subst (λ (l : Limits). Reopens l number) (sym is) (λ result kept mounts empty narrows good. restarted result (kept_limits old.limits number result kept) mounts empty narrows good)
+
+pub reopened_in_vain : {D : Type 0} (view : D → View) (start : State) (begin : ℕ) (history : List Happening) (old : Shown D) → HasRun view start begin history old → (result : Result (Shown D) (MountError D))
+    → IfErr result (λ e. Narrows (view old.disk) (view e.disk)) → IfErr result (λ e. Holds old.limits start begin history (view e.disk))
+reopened_in_vain view start begin history old run (Ok p) narrows = tt
+reopened_in_vain view start begin history old run (Err e) narrows = holds_later old.limits start begin history (view old.disk) (view e.disk) old.state old.trail run narrows
+
+-- Two parts of a history, one after the other, where the second is about the history that the first has made.
+pub continues_on : {D : Type 0} (view : D → View) (start : State) (begin : ℕ) (history : List Happening) (P Q R : List Happening → Type 0) (o p q : Shown D) → (c : Continues view start begin history P o p)
+    → ((older : List Happening) → HasRun view start begin older p → Continues view start begin older Q p q) → ((one two : List Happening) → P one → Q two → R (two ++ one)) → Continues view start begin history R o q
+continues_on view start begin history P Q R o p q c more joins =
+    let d = more (c.later ++ history) c.run in
+    let is : d.later ++ (c.later ++ history) ≡ (d.later ++ c.later) ++ history = sym (append_assoc d.later c.later history) in
+    continues view start begin history R (d.later ++ c.later) o q (d.limits ∙ c.limits) (joins c.later d.later c.this d.this) (past_join (view o.disk) (view p.disk) (view q.disk) c.past d.past) (subst (λ (h : List Happening). HasRun view start begin h q) is d.run)
+
+faults_push : (trail : List Turn) (turn : Turn) → faults_in (trail ++ turn ∷ []) ≡ faults_in trail + (if is_faulty turn.answer then 1 else 0)
+faults_push [] turn = omega arith
+faults_push (x ∷ xs) turn = omega (arith, faults_push xs turn)
+
+counts_by : (b : Bool) (first before now old : ℕ) → before ≤ now → (IsTrue b → Rose before now) → (first + old ≤ before) ⊎ (2 ^ 64 - 1 ≤ before) → (first + (old + (if b then 1 else 0)) ≤ now) ⊎ (2 ^ 64 - 1 ≤ now)
+counts_by b first before now old later rose (inr full) = inr (omega (arith, later, full))
+counts_by false first before now old later rose (inl le) = inl (omega (arith, later, le))
+counts_by true first before now old later rose (inl le) = let r : min (before + 1) (2 ^ 64 - 1) ≤ now = rose refl in ⊎_elim (λ lt. inr (omega (arith, lt, r))) (λ ge. inl (omega (arith, ge, r, le))) (cases_lt (2 ^ 64 - 1) (before + 1))
+
+pub counts_more : (first before now : ℕ) (trail new : List Turn) (turn : Turn) → new ≡ trail ++ turn ∷ [] → before ≤ now → (IsTrue (is_faulty turn.answer) → Rose before now)
+    → (first + faults_in trail ≤ before) ⊎ (2 ^ 64 - 1 ≤ before) → (first + faults_in new ≤ now) ⊎ (2 ^ 64 - 1 ≤ now)
+counts_more first before now trail new turn is later rose counts =
+    subst (λ (n : ℕ). (first + n ≤ now) ⊎ (2 ^ 64 - 1 ≤ now)) (sym (ap faults_in is ∙ faults_push trail turn)) (counts_by (is_faulty turn.answer) first before now (faults_in trail) later rose counts)

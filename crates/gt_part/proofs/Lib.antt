@@ -1,0 +1,8 @@
+pub mod Replies
+pub mod Spellings
+pub mod Naming
+pub mod Recovering
+pub mod Events
+pub mod Safe
+pub mod Histories
+pub mod LoadSteps

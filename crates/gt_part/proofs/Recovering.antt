@@ -1,0 +1,132 @@
+-- From files through their spelling to a log, and back.
+use Rattle.std.proofs.Common.{◌≡◌, ◌⊎◌, inl, inr, ⊎_elim, ℕ, zero, suc, ◌+◌, ◌<◌, ◌≤◌, Bool, true, false, cond, nat_lt, List, [], ◌∷◌, ◌++◌, length, take, get_or, map, Some, None, Option, Result, Ok, Err, refl, sym, ap, ◌∙◌, arith, subst, IsTrue, length-append}
+use Rattle.std.proofs.lemmas.List.{length-map, map-append}
+use Rattle.std.proofs.lemmas.Bool.Decides.{nat_tests}
+use Rattle.std.specs.Option.{unwrap_or}
+use Rattle.gt_disk.specs.Files.{Content as FileContent, Files, States, IsImage}
+use Rattle.gt_log.specs.Log.{gate_file, entry_file, content_length, Recovers, Stands, Doubts, Adding}
+use Rattle.gt_log.proofs.Images.{stands_recovers, doubts_recovers, adding_recovers}
+use Rattle.gt_name.specs.Paths.{IsPath}
+use Rattle.gt_model.specs.declared.entry.Entry.{Entry}
+use Rattle.gt_model.specs.declared.limits.Limits.{Limits}
+use Rattle.gt_model.specs.Contents.{Content, nothing, after, fits, IsLegal}
+use Rattle.gt_part.specs.Spelling.{encode, decode}
+use Rattle.gt_part.specs.Recovery.{Damage, fitting, entry_in, and_more, read_log, recover}
+use Rattle.gt_part.proofs.Spellings.{decode_encode, encode_decode, decode_nothing}
+
+given : (b : Bool) (x u : Entry) → cond b (Some x) None ≡ Some u → (b ≡ true) × (x ≡ u)
+given true x u is = (refl, cc (is))
+given false x u is = absurd (cc (is))
+
+-- what is in a file at its position is read
+here_is : (c : Content) (p : ℕ) (e : Entry) → e.position ≡ p → IsPath e.path → IsTrue (fits c e) → entry_in (Some (encode e)) c p ≡ Some e
+here_is c p e at good fit = ap (λ (n : ℕ). fitting c (decode n (encode e))) (sym at) ∙ ap (fitting c) (decode_encode e good) ∙ ap (λ b. cond b (Some e) None) fit
+
+-- a log is read where each of its entries is in its file
+reads : (files : Files) (c : Content) (p : ℕ) (log : List Entry) → ((k : ℕ) → k < length log → files (entry_file (p + k)) ≡ Some (get_or (map encode log) k [])) → IsLegal c p log → read_log files c p (length log) ≡ Ok log
+reads files c p [] each legal = refl
+reads files c p (u ∷ us) each legal =
+    let here : files (entry_file p) ≡ Some (encode u) = ap (λ (n : ℕ). files (entry_file n)) (let e : p ≡ p + 0 = omega arith in e) ∙ each 0 (omega arith) in
+    let is : entry_in (files (entry_file p)) c p ≡ Some u = ap (λ x. entry_in x c p) here ∙ here_is c p u legal.0 legal.1 legal.2 in
+    let next : read_log files (after c u) (p + 1) (length us) ≡ Ok us =
+    reads files (after c u) (p + 1) us (λ k lt. ap (λ (n : ℕ). files (entry_file n)) (let e : p + 1 + k ≡ p + suc k = omega arith in e) ∙ each (suc k) (omega (arith, lt))) legal.3 in
+    ap (λ o. and_more o p (λ x. read_log files (after c x) (p + 1) (length us))) is ∙ ap (λ r. and_more (Some u) p (λ x. r)) next
+
+not_past : (limits : Limits) (files : Files) → content_length (files gate_file) ≤ limits.positions → recover limits files ≡ read_log files nothing 1 (content_length (files gate_file))
+not_past limits files within =
+    let test : nat_lt limits.positions (content_length (files gate_file)) ≡ false = grind (arith, nat_tests) in
+    ap (λ (b : Bool). cond b (Err (gate_file, limits.positions)) (read_log files nothing 1 (content_length (files gate_file)))) test
+
+pub recover_is : (limits : Limits) (files : Files) (log : List Entry) → Recovers files (map encode log) → IsLegal nothing 1 log → length log ≤ limits.positions → recover limits files ≡ Ok log
+recover_is limits files log r legal within =
+    not_past limits files (omega (arith, r.count, length-map log encode, within))
+    ∙ ap (read_log files nothing 1) (r.count ∙ length-map log encode)
+    ∙ reads files nothing 1 log (λ k lt. ap (λ (n : ℕ). files (entry_file n)) (let e : 1 + k ≡ k + 1 = omega arith in e) ∙ r.each k (omega (arith, lt, length-map log encode))) legal
+
+-- what is read is in the files, and fits
+fitted : (c : Content) (o : Option Entry) (u : Entry) → fitting c o ≡ Some u → (o ≡ Some u) × IsTrue (fits c u)
+fitted c None u is = absurd (cc (is))
+fitted c (Some x) u is = let h = given (fits c x) x u is in (ap Some h.1, ap (fits c) (sym h.1) ∙ h.0)
+
+found : (file : FileContent) (p : ℕ) (u : Entry) → decode p (unwrap_or file []) ≡ Some u → (file ≡ Some (encode u)) × (u.position ≡ p) × IsPath u.path
+found None p u is = let none : None ≡ Some u = sym (decode_nothing p) ∙ is in absurd (cc (none))
+found (Some bytes) p u is = let h = encode_decode p bytes u is in (ap Some h.0, h.1, h.2)
+
+pub record IsRead (files : Files) (c : Content) (p count : ℕ) (log : List Entry) : Type 0 where
+  pub count_is : count ≡ length log
+  pub each : (k : ℕ) → k < length log → files (entry_file (p + k)) ≡ Some (get_or (map encode log) k [])
+  pub legal : IsLegal c p log
+
+more_is : (r : Result (List Entry) Damage) (u : Entry) (p : ℕ) (log : List Entry) → and_more (Some u) p (λ x. r) ≡ Ok log → (us : List Entry) × (r ≡ Ok us) × (log ≡ u ∷ us)
+more_is (Ok us) u p log is = (us, refl, cc (is))
+more_is (Err e) u p log is = absurd (cc (is))
+
+each_of : (files : Files) (c : Content) (p more : ℕ) (u : Entry) (us : List Entry) → files (entry_file p) ≡ Some (encode u) → IsRead files (after c u) (p + 1) more us
+    → (k : ℕ) → k < length (u ∷ us) → files (entry_file (p + k)) ≡ Some (get_or (map encode (u ∷ us)) k [])
+each_of files c p more u us here rest zero lt = ap (λ (n : ℕ). files (entry_file n)) (let e : p + 0 ≡ p = omega arith in e) ∙ here
+each_of files c p more u us here rest (suc k) lt = ap (λ (n : ℕ). files (entry_file n)) (let e : p + suc k ≡ p + 1 + k = omega arith in e) ∙ rest.each k (omega (arith, lt))
+
+read_one : (files : Files) (c : Content) (p more : ℕ) (log : List Entry) → ((u : Entry) (us : List Entry) → read_log files (after c u) (p + 1) more ≡ Ok us → IsRead files (after c u) (p + 1) more us)
+    → (o : Option Entry) → entry_in (files (entry_file p)) c p ≡ o → and_more o p (λ u. read_log files (after c u) (p + 1) more) ≡ Ok log → IsRead files c p (suc more) log
+read_one files c p more log next None e is = absurd (cc (is))
+read_one files c p more log next (Some u) e is =
+    let m = more_is (read_log files (after c u) (p + 1) more) u p log is in
+    let f = fitted c (decode p (unwrap_or (files (entry_file p)) [])) u e in
+    let rest : IsRead files (after c u) (p + 1) more m.0 = next u m.0 m.1 in
+    let here = found (files (entry_file p)) p u f.0 in
+    subst (λ (l : List Entry). IsRead files c p (suc more) l) (sym m.2) (record {
+      count_is = ap suc rest.count_is;
+      each = each_of files c p more u m.0 here.0 rest;
+      legal = (here.1, here.2, f.1, rest.legal);
+    })
+
+pub read_back : (files : Files) (c : Content) (p count : ℕ) (log : List Entry) → read_log files c p count ≡ Ok log → IsRead files c p count log
+read_back files c p zero log is =
+    let none : [] ≡ log = cc (is) in
+    subst (λ (l : List Entry). IsRead files c p zero l) none (record { count_is = refl; each = λ k lt. absurd (omega (arith, lt)); legal = tt })
+read_back files c p (suc more) log is = read_one files c p more log (λ u us e. read_back files (after c u) (p + 1) more us e) (entry_in (files (entry_file p)) c p) refl is
+
+-- what is recovered
+pub record IsRecovered (limits : Limits) (image : Files) (log : List Entry) : Type 0 where
+  pub files : Recovers image (map encode log)
+  pub legal : IsLegal nothing 1 log
+  pub within : length log ≤ limits.positions
+
+pub recovered : (limits : Limits) (files : Files) (log : List Entry) → recover limits files ≡ Ok log → IsRecovered limits files log
+recovered limits files log is = by (nat_lt limits.positions (content_length (files gate_file))) refl is
+  where
+    by : (b : Bool) → nat_lt limits.positions (content_length (files gate_file)) ≡ b → cond b (Err (gate_file, limits.positions)) (read_log files nothing 1 (content_length (files gate_file))) ≡ Ok log → IsRecovered limits files log
+    by true t e = absurd (cc (e))
+    by false t e =
+        let r = read_back files nothing 1 (content_length (files gate_file)) log e in
+        let within : content_length (files gate_file) ≤ limits.positions = grind (arith, nat_tests) in
+        record {
+          files = record {
+            count = r.count_is ∙ sym (length-map log encode);
+            each = λ k lt. ap (λ (n : ℕ). files (entry_file n)) (let e : k + 1 ≡ 1 + k = omega arith in e) ∙ r.each k (omega (arith, lt, length-map log encode));
+          };
+          legal = r.legal;
+          within = omega (arith, within, r.count_is);
+        }
+
+-- ---- images
+
+pub map_last : (log : List Entry) (u : Entry) → map encode (log ++ u ∷ []) ≡ map encode log ++ encode u ∷ []
+map_last log u = map-append encode log (u ∷ [])
+
+module _ (limits : Limits) where
+  pub stands_image : (log : List Entry) (states : States) → Stands (map encode log) states → IsLegal nothing 1 log → length log ≤ limits.positions → (image : Files) → IsImage states image → recover limits image ≡ Ok log
+  stands_image log states stands legal within image is = recover_is limits image log (stands_recovers (map encode log) states stands image is) legal within
+
+  -- the log with one entry more, or without it
+  module _ (log : List Entry) (u : Entry) (legal : IsLegal nothing 1 log) (more : IsLegal nothing 1 (log ++ u ∷ [])) (within : length (log ++ u ∷ []) ≤ limits.positions) (image : Files) where
+    in_or_out : Recovers image (map encode log) ⊎ Recovers image (map encode log ++ encode u ∷ []) → (recover limits image ≡ Ok log) ⊎ (recover limits image ≡ Ok (log ++ u ∷ []))
+    in_or_out = ⊎_elim
+        (λ out. inl (recover_is limits image log out legal (omega (arith, within, length-append log (u ∷ [])))))
+        (λ in_. inr (recover_is limits image (log ++ u ∷ []) (subst (λ (e : List (List ℕ)). Recovers image e) (sym (map_last log u)) in_) more within))
+
+    pub doubts_image : (states : States) → Doubts (map encode log) (encode u) states → IsImage states image → (recover limits image ≡ Ok log) ⊎ (recover limits image ≡ Ok (log ++ u ∷ []))
+    doubts_image states doubts is = in_or_out (doubts_recovers (map encode log) (encode u) states doubts image is)
+
+    pub adding_image : (before states : States) → Adding (map encode log) (encode u) before states → IsImage states image → (recover limits image ≡ Ok log) ⊎ (recover limits image ≡ Ok (log ++ u ∷ []))
+    adding_image before states adding is = in_or_out (adding_recovers (map encode log) (encode u) before states adding image is)

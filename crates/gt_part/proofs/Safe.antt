@@ -1,0 +1,180 @@
+-- A history is safe at each of its moments.
+use Rattle.std.proofs.Common.{◌≡◌, ◌⊎◌, inl, inr, ⊎_elim, ℕ, ◌+◌, ◌<◌, ◌≤◌, max, Bool, true, false, nat_lt, cond, List, [], ◌∷◌, ◌++◌, length, take, Option, Some, None, Result, Ok, Err, refl, sym, ◌∙◌, ap, subst, arith, length-append}
+use Rattle.std.proofs.lemmas.Bool.{cases_lt}
+use Rattle.std.proofs.lemmas.List.{take_all, take-append-le}
+use Rattle.std.proofs.lemmas.Bool.Decides.{nat_tests}
+use Rattle.gt_disk.specs.Files.{Files, States, IsImage}
+use Rattle.gt_model.specs.declared.answer.Done.{Done}
+use Rattle.gt_model.specs.declared.answer.Refusal.{Refusal}
+use Rattle.gt_model.specs.declared.answer.Refusal.TheVariants.{DeviceFault, Memory}
+use Rattle.gt_model.specs.declared.entry.Entry.{Entry}
+use Rattle.gt_model.specs.declared.event.Event.{Event}
+use Rattle.gt_model.specs.declared.limits.Limits.{Limits}
+use Rattle.gt_model.specs.Machine.{State, sure, with_doubt, line, Cause, stated, faulted, doubtful, starved, cause_of, Settles, Refuses, Acts, entry_of}
+use Rattle.gt_model.specs.Histories.{Happening, event, opened, tick, state, position, done_position, acks, last_tick, last_state, acked, around, Happens}
+use Rattle.gt_part.specs.Recovery.{recover}
+use Rattle.gt_part.specs.Stored.{Gives, GivesThis, GivesEither}
+use Rattle.gt_part.specs.Crash.{Run, IsSafe}
+use Rattle.gt_part.proofs.Replies.{reply_good}
+use Rattle.gt_part.proofs.Recovering.{recovered}
+
+len_line : (log : List Entry) (doubt : Option Entry) → length log ≤ length (with_doubt log doubt)
+len_line log None = omega arith
+len_line log (Some u) = omega (arith, length-append log (u ∷ []))
+
+abbrev size : State → ℕ
+size s = length s.log
+
+settles_grows : (old new : State) → Settles old new → size old ≤ size new
+settles_grows old new (inl is) = omega (arith, ap size is)
+settles_grows old new (inr is) = omega (arith, ap size is, len_line old.log old.doubt)
+
+refuses_grows : (limits : Limits) (log : List Entry) (e : Event) (refusal : Refusal) (cause : Cause) (new : State) → Refuses cause limits log e refusal new → length log ≤ size new
+refuses_grows limits log e refusal stated new r = omega (arith, ap size r.1)
+refuses_grows limits log e refusal faulted new r = omega (arith, ap size r)
+refuses_grows limits log e refusal (doubtful n) new r = omega (arith, ap size r.1)
+refuses_grows limits log e refusal starved new r = omega (arith, ap size r)
+
+acts_grows : (limits : Limits) (log : List Entry) (e : Event) (answer : Result Done Refusal) (new : State) → Acts limits log e answer new → (length log ≤ size new) × (position answer ≤ size new)
+acts_grows limits log e (Ok done) new acts =
+    let is = ap size acts.1 in
+    let good = reply_good limits log e done acts.0 in
+    (omega (arith, is, length-append log (entry_of log e ∷ [])), omega (arith, good.position, is, length-append log (entry_of log e ∷ [])))
+acts_grows limits log e (Err refusal) new acts = (refuses_grows limits log e refusal (cause_of refusal) new acts, omega arith)
+
+stopped : (answer : Result Done Refusal) → (answer ≡ Err DeviceFault) ⊎ (answer ≡ Err Memory) → position answer ≡ 0
+stopped answer (inl is) = ap position is
+stopped answer (inr is) = ap position is
+
+module _ (limits : Limits) where
+  happens_grows : (old : State) (h : Happening) → Happens limits old h → (size old ≤ size (state h)) × (acks h ≤ size (state h))
+  happens_grows old (event turn new) (inl (log, s, acts)) = let g = acts_grows limits log turn.event turn.answer new acts in (omega (arith, settles_grows old (sure log) s, g.0), g.1)
+  happens_grows old (event turn new) (inr (stops, is)) = (omega (arith, ap size is), omega (arith, stopped turn.answer stops))
+  happens_grows old (opened t new) s = (settles_grows old new s, omega arith)
+
+  acked_step : (b : Bool) (n a top : ℕ) → n ≤ top → a ≤ top → max (cond b 0 n) a ≤ top
+  acked_step true n a top le le2 = omega arith
+  acked_step false n a top le le2 = omega arith
+
+  acked_le : (start : State) (begin : ℕ) (at : ℕ → States) (history : List Happening) → Run limits start begin at history → (m : ℕ) → acked start history m ≤ size (last_state start history)
+  acked_le start begin at [] run m = omega arith
+  acked_le start begin at (h ∷ older) run m =
+      let g = happens_grows (last_state start older) h run.1 in
+      acked_step (nat_lt m (tick h)) (acks h) (acked start older m) (size (state h)) g.1 (omega (arith, g.0, acked_le start begin at older run.0 m))
+
+  -- ---- what an image gives is the front of a line
+
+  take_with : (log : List Entry) (doubt : Option Entry) → log ≡ take (length log) (with_doubt log doubt)
+  take_with log None = sym (take_all (length log) log (omega arith))
+  take_with log (Some u) = sym (take-append-le (length log) log (u ∷ []) (omega arith) ∙ take_all (length log) log (omega arith))
+
+  -- what a state gives: a log that is at least as long as its own, and a front of its line
+  record Given (s : State) (image : Files) : Type 0 where
+    pub log : List Entry
+    pub recovers : recover limits image ≡ Ok log
+    pub long : size s ≤ length log
+    pub front : log ≡ take (length log) (line s)
+
+  given : (s : State) (image : Files) → Gives limits s image → Given s image
+  given s image (inl r) = record { log = s.log; recovers = r; long = omega arith; front = take_with s.log s.doubt }
+  given s image (inr r) = record { log = line s; recovers = r; long = len_line s.log s.doubt; front = sym (take_all (length (line s)) (line s) (omega arith)) }
+
+  abbrev Safely : ℕ → State × State → Files → Type 0
+  Safely n both image = (log : List Entry) × (recover limits image ≡ Ok log) × IsSafe n both.0 both.1 log
+
+  safely : (n : ℕ) (old new : State) (image : Files) (log : List Entry) → recover limits image ≡ Ok log → n ≤ length log → (log ≡ take (length log) (line old)) ⊎ (log ≡ take (length log) (line new)) → IsSafe n old new log
+  safely n old new image log is le front = record { all = le; front = front; legal = (recovered limits image log is).legal }
+
+  from_old : (n : ℕ) (old new : State) (image : Files) → n ≤ size old → Gives limits old image → Safely n (old, new) image
+  from_old n old new image le gives = let g = given old image gives in (g.log, g.recovers, safely n old new image g.log g.recovers (omega (arith, le, g.long)) (inl g.front))
+
+  from_new : (n : ℕ) (old new : State) (image : Files) → n ≤ size new → Gives limits new image → Safely n (old, new) image
+  from_new n old new image le gives = let g = given new image gives in (g.log, g.recovers, safely n old new image g.log g.recovers (omega (arith, le, g.long)) (inr g.front))
+
+  lt_true : (m n : ℕ) → m < n → nat_lt m n ≡ true
+  lt_true m n lt = grind (arith, nat_tests)
+
+  lt_false : (m n : ℕ) → n ≤ m → nat_lt m n ≡ false
+  lt_false m n le = grind (arith, nat_tests)
+
+  -- a happening that took no time
+  raised : (a n : ℕ) (both : State × State) (new : State) (image : Files) → Safely a both image → n ≤ size new → Gives limits new image → Safely n both image
+  raised a n both new image (log, recovers, is_safe) le gives =
+      let g = given new image gives in
+      let ok : Ok log ≡ Ok g.log = sym recovers ∙ g.recovers in
+      let same : log ≡ g.log = cc ok in
+      (log, recovers, record { all = omega (arith, le, g.long, ap (λ (l : List Entry). length l) same); front = is_safe.front; legal = is_safe.legal })
+
+  pub safe : (start : State) (begin : ℕ) (at : ℕ → States) (history : List Happening) → Run limits start begin at history → (m : ℕ) → begin ≤ m → m ≤ last_tick begin history
+      → (image : Files) → IsImage (at m) image → Safely (acked start history m) (around start begin history m) image
+  safe start begin at [] run m ge le image is =
+      let here : m ≡ begin = omega (arith, ge, le) in
+      from_old (size start) start start image (omega arith) (run image (subst (λ (k : ℕ). IsImage (at k) image) here is))
+  safe start begin at (h ∷ older) run m ge le image is =
+      let u = last_tick begin older in
+      let old = last_state start older in
+      let g = happens_grows old h run.1 in
+      let low = acked_le start begin at older run.0 m in
+      let not_after : nat_lt (tick h) m ≡ false = lt_false (tick h) m le in
+      let top = acked_le start begin at (h ∷ older) run m in
+      elim (cases_lt u m) [
+        | inl later ↦
+            let both : around start begin (h ∷ older) m ≡ (old, state h) =
+            ap (λ (b : Bool). cond b (state h, state h) (cond (nat_lt u m) (old, state h) (around start begin older m))) not_after
+            ∙ ap (λ (b : Bool). cond b (old, state h) (around start begin older m)) (lt_true u m later) in
+            subst (λ (p : State × State). Safely (acked start (h ∷ older) m) p image) (sym both) (elim (cases_lt m (tick h)) [
+              | inl early ↦
+                  let same : acked start (h ∷ older) m ≡ acked start older m = ap (λ (b : Bool). max (cond b 0 (acks h)) (acked start older m)) (lt_true m (tick h) early) ∙ (let e : max 0 (acked start older m) ≡ acked start older m = omega arith in e) in
+                  ⊎_elim
+                  (λ gives. from_old (acked start (h ∷ older) m) old (state h) image (omega (arith, same, low)) gives)
+                  (λ gives. from_new (acked start (h ∷ older) m) old (state h) image top gives)
+                  (run.2.during m later le image is)
+              | inr late ↦
+                  let here : m ≡ tick h = omega (arith, late, le) in
+                  from_new (acked start (h ∷ older) m) old (state h) image top (run.2.end image (subst (λ (k : ℕ). IsImage (at k) image) here is))
+            ])
+        | inr earlier ↦
+            let both : around start begin (h ∷ older) m ≡ around start begin older m =
+            ap (λ (b : Bool). cond b (state h, state h) (cond (nat_lt u m) (old, state h) (around start begin older m))) not_after
+            ∙ ap (λ (b : Bool). cond b (old, state h) (around start begin older m)) (lt_false u m earlier) in
+            elim (cases_lt m (tick h)) [
+              | inl early ↦
+                  let same : acked start (h ∷ older) m ≡ acked start older m = ap (λ (b : Bool). max (cond b 0 (acks h)) (acked start older m)) (lt_true m (tick h) early) ∙ (let e : max 0 (acked start older m) ≡ acked start older m = omega arith in e) in
+                  subst (λ (p : State × State). Safely (acked start (h ∷ older) m) p image) (sym both)
+                  (subst (λ (n : ℕ). Safely n (around start begin older m) image) (sym same) (safe start begin at older run.0 m ge earlier image is))
+              | inr late ↦
+                  let here : m ≡ tick h = omega (arith, late, le) in
+                  subst (λ (p : State × State). Safely (acked start (h ∷ older) m) p image) (sym both)
+                  (raised (acked start older m) (acked start (h ∷ older) m) (around start begin older m) (state h) image (safe start begin at older run.0 m ge earlier image is) top
+                  (run.2.end image (subst (λ (k : ℕ). IsImage (at k) image) here is)))
+            ]
+      ]
+
+  -- what comes later leaves a history as it was
+  pub run_past : (start : State) (begin : ℕ) (at next : ℕ → States) (history : List Happening) → ((m : ℕ) → m ≤ last_tick begin history → next m ≡ at m) → Run limits start begin at history → Run limits start begin next history
+  run_past start begin at next [] past run = subst (λ (x : States). GivesThis limits start x) (sym (past begin (omega arith))) run
+  run_past start begin at next (h ∷ older) past run = (
+    run_past start begin at next older (λ m le. past m (omega (arith, le, run.2.later))) run.0,
+    run.1,
+    record {
+      later = run.2.later;
+      during = λ m lt le. subst (λ (x : States). GivesEither limits (last_state start older) (state h) x) (sym (past m le)) (run.2.during m lt le);
+      end = subst (λ (x : States). GivesThis limits (state h) x) (sym (past (tick h) (omega arith))) run.2.end;
+    },
+  )
+
+  pub begins_before : (start : State) (begin : ℕ) (at : ℕ → States) (history : List Happening) → Run limits start begin at history → begin ≤ last_tick begin history
+  begins_before start begin at [] run = omega arith
+  begins_before start begin at (h ∷ older) run = omega (arith, begins_before start begin at older run.0, run.2.later)
+
+  -- after the last happening the last state stands
+  around_after : (start : State) (begin : ℕ) (history : List Happening) (m : ℕ) → last_tick begin history < m → around start begin history m ≡ (last_state start history, last_state start history)
+  around_after start begin [] m lt = refl
+  around_after start begin (h ∷ older) m lt =
+      ap (λ (b : Bool). cond b (state h, state h) (cond (nat_lt (last_tick begin older) m) (last_state start older, state h) (around start begin older m))) (lt_true (tick h) m lt)
+
+  pub safe_after : (start : State) (begin : ℕ) (at : ℕ → States) (history : List Happening) → Run limits start begin at history → (m : ℕ) → last_tick begin history < m
+      → (image : Files) → Gives limits (last_state start history) image → Safely (acked start history m) (around start begin history m) image
+  safe_after start begin at history run m lt image gives =
+      subst (λ (p : State × State). Safely (acked start history m) p image) (sym (around_after start begin history m lt))
+      (from_new (acked start history m) (last_state start history) (last_state start history) image (acked_le start begin at history run m) gives)

@@ -1,0 +1,26 @@
+use Rattle.std.proofs.Common.{◌≡◌, ◌∙◌, ap, sym, [], refl, Ok}
+use Rattle.gt_disk.specs.Files.{Files, View}
+use Rattle.gt_disk.proofs.Steps.{narrows_quiet}
+use Rattle.gt_log.specs.Log.{gate_file, content_length}
+use Rattle.gt_model.specs.Machine.{sure}
+use Rattle.gt_part.specs.Recovery.{recover}
+use Rattle.gt_part.proofs.Histories.{first_opened, opened_stored, trail_same}
+use Rattle.gt_part.proofs.partition.Partition.mount.Goals as goal
+
+pub returns-in-Ok-load-clause-moments : goal.returns-in-Ok-load-clause-moments
+returns-in-Ok-load-clause-moments g c told = narrows_quiet _ _ _ (c.mount.ensures.narrows told) (c.load.ensures.quiet told)
+
+pub returns-in-Err-load-clause-moments_in_vain : goal.returns-in-Err-load-clause-moments_in_vain
+returns-in-Err-load-clause-moments_in_vain g c told = narrows_quiet _ _ _ (c.mount.ensures.narrows told) (c.load.ensures.quiet told)
+
+pub returns-in-Ok-load-clause-run : goal.returns-in-Ok-load-clause-run
+returns-in-Ok-load-clause-run g c told good =
+    let v = g.D.Disk.view c.args.disk in
+    let w = g.D.Disk.view c.mount.new.disk in
+    let x = g.D.Disk.view c.load.new.disk in
+    let log = c.in-Ok-load.table.entries.items in
+    let reads = c.mount.ensures.reads told in
+    let len = c.in-Ok.ensures.len told ∙ sym (ap (λ (r : Files). content_length (r gate_file)) reads) in
+    let is : recover c.args.limits v.reads ≡ Ok log = ap (λ (r : Files). recover c.args.limits r) (sym reads) ∙ c.in-Ok-load.ensures.loads told len in
+    let stored = opened_stored c.args.limits v w x log (g.met.D.Disk.shows c.args.disk told) good is (λ entries recovers keeps. (c.in-Ok.ensures.stands told entries recovers keeps).1) (c.load.ensures.quiet told) in
+    trail_same c.args.limits (sure log) x.clock [] x (sure log) (sure log) [] c.new.result.0 refl c.new.ensures (first_opened c.args.limits x (sure log) stored)

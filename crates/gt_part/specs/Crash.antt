@@ -1,0 +1,40 @@
+-- What a stop at any moment of a history leaves.
+use Rattle.std.specs.Prelude.{◌≡◌, ◌⊎◌, ℕ, ◌<◌, ◌≤◌, List, [], ◌∷◌, length, take, Ok}
+use Rattle.gt_disk.specs.Files.{Files, States, View, now, IsImage}
+use Rattle.gt_model.specs.declared.entry.Entry.{Entry}
+use Rattle.gt_model.specs.declared.limits.Limits.{Limits}
+use Rattle.gt_model.specs.Contents.{nothing, IsLegal}
+use Rattle.gt_model.specs.Machine.{State, line}
+use Rattle.gt_model.specs.Histories.{Happening, tick, state, last_tick, last_state, acked, around, Happens}
+use Rattle.gt_part.specs.Recovery.{recover}
+use Rattle.gt_part.specs.Stored.{GivesEither, GivesThis}
+
+-- what a stop leaves at the moments of a happening
+pub record Leaves (limits : Limits) (at : ℕ → States) (u t : ℕ) (old new : State) : Type 0 where
+  pub later : u ≤ t
+  pub during : (m : ℕ) → u < m → m ≤ t → GivesEither limits old new (at m)
+  pub end : GivesThis limits new (at t)
+
+-- these happenings follow each other from the start
+abbrev pub Run : Limits → State → ℕ → (ℕ → States) → List Happening → Type 0
+Run limits start begin at [] = GivesThis limits start (at begin)
+Run limits start begin at (h ∷ older) =
+    Run limits start begin at older × Happens limits (last_state start older) h × Leaves limits at (last_tick begin older) (tick h) (last_state start older) (state h)
+
+-- What recovers has all that was acknowledged, and is a front of one of the two lines. Each entry fits the content just before it.
+pub record IsSafe (acknowledged : ℕ) (before after : State) (log : List Entry) : Type 0 where
+  pub all : acknowledged ≤ length log
+  pub front : (log ≡ take (length log) (line before)) ⊎ (log ≡ take (length log) (line after))
+  pub legal : IsLegal nothing 1 log
+
+-- Whatever a stop at this moment leaves recovers.
+abbrev pub CrashAt : Limits → State → ℕ → (ℕ → States) → List Happening → ℕ → Type 0
+CrashAt limits start begin at history m =
+    (image : Files) → IsImage (at m) image → (log : List Entry) × (recover limits image ≡ Ok log)
+    × IsSafe (acked start history m) (around start begin history m).0 (around start begin history m).1 log
+
+-- A history holds on a disk: it is a run, whatever a stop at a moment until now leaves recovers safely, and now the disk has its last state, with the doubt or without.
+pub record Holds (limits : Limits) (start : State) (begin : ℕ) (history : List Happening) (view : View) : Type 0 where
+  pub run : Run limits start begin view.at history
+  pub crash : (m : ℕ) → begin ≤ m → m ≤ view.clock → CrashAt limits start begin view.at history m
+  pub ends : GivesThis limits (last_state start history) (now view)

@@ -1,0 +1,9 @@
+pub mod Book
+pub mod Crash
+pub mod Mounts
+pub mod Named
+pub mod Recovery
+pub mod Room
+pub mod Shown
+pub mod Spelling
+pub mod Stored

@@ -1,0 +1,47 @@
+-- What the files of a partition recover to.
+use Rattle.std.specs.Prelude.{◌≡◌, ℕ, ◌+◌, ◌<◌, zero, suc, nat_lt, List, [], ◌∷◌, ◌++◌, length, Option, Some, None, Result, Ok, Err, if◌then◌else◌}
+use Rattle.std.specs.Option.{unwrap_or}
+use Rattle.gt_disk.specs.declared.file_id.FileId.{FileId}
+use Rattle.gt_disk.specs.Files.{Content as FileContent, Files, States, still, IsImage}
+use Rattle.gt_log.specs.Log.{gate_file, entry_file, content_length}
+use Rattle.gt_model.specs.declared.entry.Entry.{Entry}
+use Rattle.gt_model.specs.declared.limits.Limits.{Limits}
+use Rattle.gt_model.specs.Contents.{Content, nothing, after, fits}
+use Rattle.gt_part.specs.Spelling.{decode}
+
+-- a file that is damaged, and the place in it
+abbrev pub Damage : Type 0
+Damage = FileId × ℕ
+
+abbrev pub fitting : Content → Option Entry → Option Entry
+fitting c None = None
+fitting c (Some e) = if fits c e then Some e else None
+
+-- the entry of a file that is there, spells an entry at this position, and fits the content before it
+abbrev pub entry_in : FileContent → Content → ℕ → Option Entry
+entry_in file c position = fitting c (decode position (unwrap_or file []))
+
+abbrev pub and_more : Option Entry → ℕ → (Entry → Result (List Entry) Damage) → Result (List Entry) Damage
+and_more None position more = Err (entry_file position, 0)
+and_more (Some e) position more = elim (more e) [ Ok es ↦ Ok (e ∷ es) | Err bad ↦ Err bad ]
+
+-- the next entries from a position on, as many as this, or the first that is damaged
+abbrev pub read_log : Files → Content → ℕ → ℕ → Result (List Entry) Damage
+read_log files c position zero = Ok []
+read_log files c position (suc more) = and_more (entry_in (files (entry_file position)) c position) position (λ e. read_log files (after c e) (position + 1) more)
+
+-- the log of the files, as many entries as the gate has bytes; or what is damaged, a gate that is longer than the limit first
+abbrev pub recover : Limits → Files → Result (List Entry) Damage
+recover limits files = if nat_lt limits.positions (content_length (files gate_file)) then Err (gate_file, limits.positions) else read_log files nothing 1 (content_length (files gate_file))
+
+-- a log whose entry files are still
+abbrev pub KeepsFiles : List Entry → States → Type 0
+KeepsFiles log states = (k : ℕ) → k < length log → (x : FileContent) × (states (entry_file (k + 1)) ≡ still x)
+
+-- Whatever a stop leaves recovers, and the files that it recovers by are still.
+abbrev pub IsGood : Limits → States → Type 0
+IsGood limits states = (image : Files) → IsImage states image → (log : List Entry) × (recover limits image ≡ Ok log) × KeepsFiles log states
+
+abbrev pub prepend : List Entry → Result (List Entry) Damage → Result (List Entry) Damage
+prepend xs (Ok ys) = Ok (xs ++ ys)
+prepend xs (Err bad) = Err bad

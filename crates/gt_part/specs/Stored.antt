@@ -1,0 +1,36 @@
+-- A state of the machine and the files that hold it.
+use Rattle.std.specs.Prelude.{◌≡◌, ◌⊎◌, ℕ, ◌≤◌, List, length, map, Option, Some, None, Ok}
+use Rattle.gt_disk.specs.Files.{Files, States, View, now, IsImage}
+use Rattle.gt_disk.specs.Moments.{Since}
+use Rattle.gt_log.specs.Log.{Stands, Doubts}
+use Rattle.gt_model.specs.declared.entry.Entry.{Entry}
+use Rattle.gt_model.specs.declared.limits.Limits.{Limits}
+use Rattle.gt_model.specs.Contents.{nothing, IsLegal}
+use Rattle.gt_model.specs.Machine.{State, line}
+use Rattle.gt_part.specs.Spelling.{encode}
+use Rattle.gt_part.specs.Recovery.{recover}
+
+-- an image gives this state, with its doubt or without
+abbrev pub Gives : Limits → State → Files → Type 0
+Gives limits s image = (recover limits image ≡ Ok s.log) ⊎ (recover limits image ≡ Ok (line s))
+
+abbrev pub GivesThis : Limits → State → States → Type 0
+GivesThis limits s states = (image : Files) → IsImage states image → Gives limits s image
+
+-- each image gives the state before an event or the one after it
+abbrev pub GivesEither : Limits → State → State → States → Type 0
+GivesEither limits old new states = (image : Files) → IsImage states image → Gives limits old image ⊎ Gives limits new image
+
+abbrev pub FilesHave : List Entry → Option Entry → States → Type 0
+FilesHave log None states = Stands (map encode log) states
+FilesHave log (Some e) states = Doubts (map encode log) (encode e) states
+
+-- the files have this state
+pub record Stored (limits : Limits) (s : State) (states : States) : Type 0 where
+  pub files : FilesHave s.log s.doubt states
+  pub legal : IsLegal nothing 1 (line s)
+  pub within : length (line s) ≤ limits.positions
+
+-- An event leaves the new state in the files, and at each of its moments each image gives the old state or the new one.
+abbrev pub Moves : Limits → State → State → View → View → Type 0
+Moves limits old new v w = Stored limits old (now v) → Stored limits new (now w) × Since (GivesEither limits old new) v w

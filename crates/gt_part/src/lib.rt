@@ -1,0 +1,15 @@
+//! One partition: a log of entries over a disk of its own, what the log has made, and the trail of its events.
+#![tactic(auto)]
+
+mod act;
+mod book;
+mod loading;
+mod partition;
+mod reply;
+mod spelling;
+mod table;
+
+pub use partition::Partition;
+
+#[cfg(test)]
+mod tests;

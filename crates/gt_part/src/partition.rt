@@ -1,0 +1,182 @@
+ghost use Rattle.std.specs.Prelude.{◌≡◌, ◌≤◌, ◌++◌, ℕ, [], ◌∷◌, List, length, IsTrue, IfOk, IfErr};
+ghost use Rattle.gt_disk.specs.Files.{Rose, now};
+ghost use Rattle.gt_disk.specs.Moments.{Narrows};
+ghost use Rattle.gt_model.specs.Machine.{State, Step, Settles, is_faulty};
+ghost use Rattle.gt_model.specs.Histories.{Happening};
+ghost use Rattle.gt_part.specs.Recovery.{recover, IsGood};
+ghost use Rattle.gt_part.specs.Crash.{Holds};
+ghost use Rattle.gt_part.specs.Mounts.{Mounts, HasMountCause};
+ghost use Rattle.gt_part.specs.Shown.{Counts, HasRun, Continues, OneEvent, OneOpening, Records};
+
+use crate::act::attempt;
+use crate::book::Book;
+use crate::loading::load;
+use gt_disk::Disk;
+use gt_list::Roomy;
+use gt_log::{Log, MountCause, MountError};
+use gt_model::{Answer, Event, Limits, Refusal, Trail, Turn, Who};
+use gt_name::RepoPath;
+use std::alloc::Global;
+use std::marker::Model;
+
+/// A log of entries over its disk, what the log has made, and each event since it was mounted.
+#[derive(Drop)]
+pub struct Partition<D: Disk + Drop> {
+    number: u8,
+    disk: D,
+    limits: Limits,
+    book: Book,
+    trail: Trail,
+}
+
+impl<D: Disk + Drop> Model for Partition<D> {
+    ghost use Rattle.gt_part.specs.Shown.{Shown};
+    ghost use Rattle.gt_part.specs.Book.{state_of};
+
+    ghost Value = { Shown D };
+
+    ghost use Rattle.std.specs.Prelude.{◌≤◌};
+
+    ghost invariant = { λ p. (1 ≤ p.number) × (p.number ≤ 8) };
+
+    ghost view = { λ p. record { number = p.number; disk = p.disk; limits = p.limits; state = state_of p.book; trail = p.trail.0 } };
+}
+
+impl<D: Disk + Drop> Partition<D> {
+    /// Opens what the disk's files recover to. `Damaged` names the first damage: a gate that is longer than the limit, then the
+    /// first entry that is absent, isn't spelled, or doesn't fit. `DeviceFault` comes only of a fault of the disk.
+    pub fn mount(
+        alloc: Global,
+        number: u8,
+        disk: D,
+        limits: Limits,
+    ) -> Result<Partition<D>, MountError<D>>
+        requires least { 1 ≤ number }
+        requires most { number ≤ 8 }
+
+        // Over a disk that tells it opens exactly what the files recover to, or names the first damage.
+        ensures answer { IsTrue D.tells → Mounts (recover limits (D.view disk).reads) result }
+        ensures kept { IfOk result (λ p. (p.number ≡ number) × (p.limits ≡ limits)) }
+        ensures empty { IfOk result (λ p. p.trail ≡ []) }
+        ensures faults { IfOk result (λ p. Counts D.fault_count (D.fault_count p.disk) p) }
+        ensures fault { IfErr result (HasMountCause D.fault_count disk) }
+        ensures later { IfOk result (λ p. D.fault_count disk ≤ D.fault_count p.disk) }
+
+        // At no moment can a stop leave what it couldn't leave before.
+        ensures moments { IsTrue D.tells → IfOk result (λ p. Narrows (D.view disk) (D.view p.disk)) }
+        ensures moments_in_vain { IsTrue D.tells → IfErr result (λ e. Narrows (D.view disk) (D.view e.disk)) }
+        ensures reads_in_vain { IsTrue D.tells → IfErr result (λ e. (D.view e.disk).reads ≡ (D.view disk).reads) }
+
+        // Where whatever a stop may leave recovers, a run begins here.
+        ensures run { IsTrue D.tells → IsGood limits (now (D.view disk)) → IfOk result (λ p. HasRun D.view p.state (D.view p.disk).clock [] p) }
+    {
+        let mut disk = disk;
+        let log = match Log::mount(&mut disk) {
+            Ok(log) => log,
+            Err(_) => {
+                return Err(MountError {
+                    cause: MountCause::DeviceFault,
+                    disk,
+                });
+            }
+        };
+        match load(alloc, &limits, &log, &mut disk) {
+            Ok(table) => Ok(Partition {
+                number,
+                disk,
+                limits,
+                book: Book {
+                    log,
+                    table,
+                    doubt: None,
+                },
+                trail: Roomy::new(alloc),
+            }),
+            Err(cause) => Err(MountError { cause, disk }),
+        }
+    }
+
+    /// Gives the disk back.
+    pub fn unmount(self) -> D
+        ensures { result ≡ self.disk }
+    {
+        self.disk
+    }
+
+    /// Unmounts, and mounts again: what is in doubt is settled, and a new trail begins.
+    pub fn restart(self, alloc: Global) -> Result<Partition<D>, MountError<D>>
+        // Where it fails, what has happened still holds on the disk.
+        ensures in_vain { IsTrue D.tells → (start : State) (begin : ℕ) (history : List Happening) → HasRun D.view start begin history self → IfErr result (λ e. Holds self.limits start begin history (D.view e.disk)) }
+        ensures kept { IfOk result (λ p. (p.number ≡ self.number) × (p.limits ≡ self.limits)) }
+        ensures answer { IsTrue D.tells → Mounts (recover self.limits (D.view self.disk).reads) result }
+        ensures later { IfOk result (λ p. D.fault_count self.disk ≤ D.fault_count p.disk) }
+        ensures fault { IfErr result (HasMountCause D.fault_count self.disk) }
+        ensures moments_in_vain { IsTrue D.tells → IfErr result (λ e. Narrows (D.view self.disk) (D.view e.disk)) }
+        ensures reads_in_vain { IsTrue D.tells → IfErr result (λ e. (D.view e.disk).reads ≡ (D.view self.disk).reads) }
+        ensures empty { IfOk result (λ p. p.trail ≡ []) }
+        ensures settles { IsTrue D.tells → (start : State) (begin : ℕ) (history : List Happening) → HasRun D.view start begin history self → IfOk result (λ p. Settles self.state p.state) }
+        ensures run { IsTrue D.tells → (start : State) (begin : ℕ) (history : List Happening) → HasRun D.view start begin history self
+            → IfOk result (λ p. Continues D.view start begin history (OneOpening (D.view p.disk).clock p.state) self p) }
+    {
+        let number = self.number;
+        let limits = self.limits;
+        Partition::mount(alloc, number, self.unmount(), limits)
+    }
+
+    /// The position of the last entry of the log, 0 where there is none. An entry in doubt doesn't count.
+    pub fn front(&self) -> u64
+        ensures { result ≡ length self.now.state.log }
+    {
+        self.book.table.entries.len() as u64
+    }
+
+    /// The records of this opening.
+    pub fn trail(&self) -> &Trail
+        ensures { result.now.0 ≡ self.now.trail }
+    {
+        &self.trail
+    }
+
+    /// Makes a repository, or a pool. `RepositoryExists` comes exactly where the content at the front has the path, and then
+    /// `LogFull` exactly at the limit of positions; `DeviceFault` and `Unsure` only of a fault of the disk.
+    pub fn create(&mut self, alloc: Global, who: Who, path: &RepoPath, pool: bool) -> Answer
+        ensures limits { self.new.limits ≡ self.old.limits }
+        ensures step { Step self.old.limits self.old.state (Event.Create path.now pool) result self.new.state }
+        ensures faults { (first : ℕ) → Counts D.fault_count first self.old → Counts D.fault_count first self.new }
+        ensures fault { IsTrue (is_faulty result) → Rose (D.fault_count self.old.disk) (D.fault_count self.new.disk) }
+        ensures later { D.fault_count self.old.disk ≤ D.fault_count self.new.disk }
+        ensures trail { Records who (Event.Create path.now pool) result (D.view self.new.disk).clock self.old self.new }
+        ensures run { IsTrue D.tells → (start : State) (begin : ℕ) (history : List Happening) → HasRun D.view start begin history self.old
+            → Continues D.view start begin history (OneEvent who (Event.Create path.now pool) result (D.view self.new.disk).clock self.new.state) self.old self.new }
+    {
+        let Ok(path) = path.clone() else {
+            return Err(Refusal::Memory);
+        };
+        self.perform(alloc, who, Event::Create { path, pool })
+    }
+
+    /// Does an event, and keeps its record.
+    fn perform(&mut self, alloc: Global, who: Who, event: Event) -> Answer
+        ensures limits { self.new.limits ≡ self.old.limits }
+        ensures step { Step self.old.limits self.old.state event result self.new.state }
+        ensures faults { (first : ℕ) → Counts D.fault_count first self.old → Counts D.fault_count first self.new }
+        ensures fault { IsTrue (is_faulty result) → Rose (D.fault_count self.old.disk) (D.fault_count self.new.disk) }
+        ensures later { D.fault_count self.old.disk ≤ D.fault_count self.new.disk }
+        ensures trail { Records who event result (D.view self.new.disk).clock self.old self.new }
+        ensures run { IsTrue D.tells → (start : State) (begin : ℕ) (history : List Happening) → HasRun D.view start begin history self.old
+            → Continues D.view start begin history (OneEvent who event result (D.view self.new.disk).clock self.new.state) self.old self.new }
+    {
+        if let Err(_) = self.trail.reserve(1) {
+            return Err(Refusal::Memory);
+        }
+        let answer = attempt(alloc, &self.limits, &mut self.book, &mut self.disk, &event);
+        let tick = self.disk.tick();
+        self.trail.add(Turn {
+            who,
+            event,
+            answer,
+            tick,
+        });
+        answer
+    }
+}
