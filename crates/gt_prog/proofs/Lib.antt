@@ -1,0 +1,4 @@
+pub mod ScriptSteps
+pub mod Telling
+pub mod PlaySteps
+pub mod Ends

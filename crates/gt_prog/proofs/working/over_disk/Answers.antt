@@ -1,0 +1,13 @@
+use Rattle.gt_prog.proofs.Ends.{ends_in_part}
+use Rattle.gt_prog.proofs.PlaySteps.{replayed, replayed_part}
+use Rattle.gt_prog.proofs.working.over_disk.Goals as goal
+
+pub returns-in-Ok-play-clause-ends : goal.returns-in-Ok-play-clause-ends
+returns-in-Ok-play-clause-ends g c =
+    replayed g.D.Disk.tells g.D.Disk.view c.args.limits c.args.requests.now (g.D.Disk.view c.args.disk) c.in-Ok.partition c.in-Ok.ensures.answer c.in-Ok.ensures.kept.1 c.in-Ok.ensures.moments c.in-Ok.ensures.run
+    c.in-Ok-play.partition c.unmount.result _ _ c.unmount.ensures c.in-Ok-play.ensures.played
+
+pub returns-in-Err-play-clause-ends : goal.returns-in-Err-play-clause-ends
+returns-in-Err-play-clause-ends g c =
+    ends_in_part g.D.Disk.tells c.args.limits c.args.requests.now (g.D.Disk.view c.args.disk) (g.D.Disk.view c.in-Err-play.error.disk) _ _ c.in-Err-play.error.cause c.status_of_play-status.result c.status_of_play-status.ensures
+    (replayed_part g.D.Disk.tells g.D.Disk.view c.args.limits c.args.requests.now (g.D.Disk.view c.args.disk) c.in-Ok.partition c.in-Ok.ensures.answer c.in-Ok.ensures.kept.1 c.in-Ok.ensures.moments c.in-Ok.ensures.run (g.D.Disk.view c.in-Err-play.error.disk) _ _ c.in-Err-play.ensures.part)

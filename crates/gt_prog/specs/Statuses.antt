@@ -1,0 +1,110 @@
+-- What each status says.
+use Rattle.std.specs.Prelude.{◌≡◌, ◌⊎◌, ℕ, Bool, IsTrue, List, Option, Result, Ok, Err, IfSome, Vec}
+use Rattle.std.specs.declared.alloc.Global.{Global}
+use Rattle.gt_disk.specs.declared.file_id.FileId.{FileId}
+use Rattle.gt_disk.specs.Files.{View, Rose, now}
+use Rattle.gt_disk.specs.Moments.{Narrows}
+use Rattle.gt_log.specs.declared.mount_cause.MountCause.{MountCause}
+use Rattle.gt_log.specs.declared.mount_cause.MountCause.TheVariants.{DeviceFault, Damaged as DamagedFile, Memory as NoMemoryToMount}
+use Rattle.gt_model.specs.declared.limits.Limits.{Limits}
+use Rattle.gt_prog.specs.declared.playing.PlayCause.{PlayCause}
+use Rattle.gt_prog.specs.declared.playing.PlayCause.TheVariants.{Write, Device, Damaged as DamagedLater, Memory as NoMemoryToPlay}
+use Rattle.gt_prog.specs.declared.request.Request.{Request}
+use Rattle.gt_prog.specs.declared.status.Status.{Status}
+use Rattle.gt_prog.specs.declared.status.Status.TheVariants.{Done, Usage, ReadFault, WriteFault, DiskFault, Damaged, Memory, NotYet}
+use Rattle.gt_prog.specs.Replay.{Replayed, ReplayedPart}
+use Rattle.gt_prog.specs.Script.{script_of}
+
+-- the greatest input, in bytes
+abbrev pub input_limit : ℕ
+input_limit = 524288
+
+-- the input, where it is told, asks for these requests
+abbrev pub Asks : Option (List ℕ) → List Request → Type 0
+Asks input requests = IfSome input (λ bytes. script_of input_limit bytes ≡ Ok requests)
+
+-- the input, where it is told, has its first bad line here
+abbrev pub IsBadAt : Option (List ℕ) → ℕ → Type 0
+IsBadAt input line = IfSome input (λ bytes. script_of input_limit bytes ≡ Err line)
+
+-- the statuses before the disk is taken
+abbrev pub IsEarly : Status → Type 0
+IsEarly Done = ⊥
+IsEarly Usage = Unit {0}
+IsEarly ReadFault = Unit {0}
+IsEarly WriteFault = ⊥
+IsEarly (DiskFault disk) = ⊥
+IsEarly (Damaged disk file at) = ⊥
+IsEarly Memory = ⊥
+IsEarly (NotYet line) = Unit {0}
+
+-- the statuses that may come before the requests or among them
+abbrev pub IsBreak : Status → Type 0
+IsBreak Done = ⊥
+IsBreak Usage = ⊥
+IsBreak ReadFault = ⊥
+IsBreak WriteFault = ⊥
+IsBreak (DiskFault disk) = Unit {0}
+IsBreak (Damaged disk file at) = Unit {0}
+IsBreak Memory = Unit {0}
+IsBreak (NotYet line) = ⊥
+
+-- Nothing was written, and where the disk tells it, it reads as before and a stop can leave nothing new.
+pub record IsUntouched (tells : Bool) (old new : View) (written out : Option (List ℕ)) : Type 0 where
+  pub silent : out ≡ written
+  pub reads : IsTrue tells → new.reads ≡ old.reads
+  pub moments : IsTrue tells → Narrows old new
+
+-- All requests of the input were done and answered.
+pub record IsDone (tells : Bool) (limits : Limits) (input : Option (List ℕ)) (old new : View) (written out : Option (List ℕ)) : Type 0 where
+  pub requests : List Request
+  pub asked : Asks input requests
+  pub replayed : Replayed tells limits requests old new written out
+
+-- The work ended among the requests of the input.
+pub record IsCutShort (tells : Bool) (limits : Limits) (input : Option (List ℕ)) (old new : View) (written out : Option (List ℕ)) : Type 0 where
+  pub requests : List Request
+  pub asked : Asks input requests
+  pub replayed : ReplayedPart tells limits requests old new written out
+
+-- The work ended before the requests, or among them.
+abbrev pub IsBroken : Bool → Limits → Option (List ℕ) → View → View → Option (List ℕ) → Option (List ℕ) → Type 0
+IsBroken tells limits input old new written out = IsUntouched tells old new written out ⊎ IsCutShort tells limits input old new written out
+
+-- how the work over known requests ends
+abbrev pub WorkEnds : Bool → Limits → List Request → View → View → Option (List ℕ) → Option (List ℕ) → Status → Type 0
+WorkEnds tells limits requests old new written out Done = Replayed tells limits requests old new written out
+WorkEnds tells limits requests old new written out Usage = ⊥
+WorkEnds tells limits requests old new written out ReadFault = ⊥
+WorkEnds tells limits requests old new written out WriteFault = ReplayedPart tells limits requests old new written out
+WorkEnds tells limits requests old new written out (DiskFault disk) = IsUntouched tells old new written out ⊎ ReplayedPart tells limits requests old new written out
+WorkEnds tells limits requests old new written out (Damaged disk file at) = IsUntouched tells old new written out ⊎ ReplayedPart tells limits requests old new written out
+WorkEnds tells limits requests old new written out Memory = IsUntouched tells old new written out ⊎ ReplayedPart tells limits requests old new written out
+WorkEnds tells limits requests old new written out (NotYet line) = ⊥
+
+-- what reading the input gives: its requests, or the status with its cause
+abbrev pub ReadsInput : Result (Vec Request Global) Status → Option (List ℕ) → Type 0
+ReadsInput (Ok requests) input = Asks input requests.items
+ReadsInput (Err Done) input = ⊥
+ReadsInput (Err Usage) input = ⊥
+ReadsInput (Err ReadFault) input = Unit {0}
+ReadsInput (Err WriteFault) input = ⊥
+ReadsInput (Err (DiskFault disk)) input = ⊥
+ReadsInput (Err (Damaged disk file at)) input = ⊥
+ReadsInput (Err Memory) input = Unit {0}
+ReadsInput (Err (NotYet line)) input = IsBadAt input line
+
+-- The count of faults of the host or of the disk rose.
+abbrev pub RoseEither : ℕ → ℕ → ℕ → ℕ → Type 0
+RoseEither host_before host_now disk_before disk_now = Rose host_before host_now ⊎ Rose disk_before disk_now
+
+abbrev pub status_of_mount : MountCause → Status
+status_of_mount DeviceFault = DiskFault 1
+status_of_mount (DamagedFile file at) = Damaged 1 file at
+status_of_mount NoMemoryToMount = Memory
+
+abbrev pub status_of_play : PlayCause → Status
+status_of_play Write = WriteFault
+status_of_play Device = DiskFault 1
+status_of_play (DamagedLater file at) = Damaged 1 file at
+status_of_play NoMemoryToPlay = Memory

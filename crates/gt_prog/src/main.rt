@@ -1,0 +1,46 @@
+//! The program: a script of requests over folders, one answer line a request.
+#![tactic(auto)]
+
+mod playing;
+mod reply;
+mod request;
+mod script;
+mod status;
+#[cfg(test)]
+mod tests;
+mod top;
+mod words;
+mod working;
+
+use gt_real::{FolderHost, StandardInput, StandardOutput};
+use status::Status;
+use std::process::ExitCode;
+use std::{env, io};
+use top::gitstore_plain;
+
+/// The first word is the folder of the disks, `.` without any word; the others say what to do.
+fn main(rt: HostRuntime) -> ExitCode {
+    let status = match run(&rt) {
+        Ok(status) => status,
+        Err(_) => Status::Memory,
+    };
+    if let Ok(text) = status.text(rt.alloc()) {
+        let _ = rt.eprint(text.as_str());
+    }
+    ExitCode::from(status.code())
+}
+
+fn run(rt: &HostRuntime) -> io::Result<Status> {
+    let alloc = rt.alloc();
+    let mut args = env::args(rt)?.skip(1);
+    let folder = match args.next() {
+        Some(folder) => folder,
+        None => String::from_str(alloc, ".")?,
+    };
+    let texts: Vec<String> = args.collect(alloc)?;
+    let words: Vec<&str> = texts.iter().map(|text| text.as_str()).collect(alloc)?;
+    let mut host = FolderHost::new(rt.clone()?, folder);
+    let mut source = StandardInput::new(rt);
+    let mut sink = StandardOutput::new(rt.clone()?);
+    Ok(gitstore_plain(alloc, &words, &mut host, &mut source, &mut sink))
+}

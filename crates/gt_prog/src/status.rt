@@ -1,0 +1,57 @@
+use gt_disk::FileId;
+use std::alloc::{AllocError, Global};
+
+/// How the program ended.
+#[derive(Clone, Copy, Debug, PartialEq, Eq)]
+pub enum Status {
+    /// The input was read to its end, and every answer was written.
+    Done,
+    /// The words aren't known.
+    Usage,
+    /// The input failed.
+    ReadFault,
+    /// The output failed.
+    WriteFault,
+    /// The disk of this number, or who keeps it, failed.
+    DiskFault { disk: u8 },
+    /// A file of the disk of this number is damaged at this place, in bytes from 0.
+    Damaged { disk: u8, file: FileId, at: u64 },
+    /// Memory ran out.
+    Memory,
+    /// This line, from 1, is of no form that is built; line 0 is an input over the limit.
+    NotYet { line: u32 },
+}
+
+impl Status {
+    /// The exit status of the process.
+    pub fn code(&self) -> u8 {
+        match self {
+            Status::Done => 0,
+            Status::Usage => 2,
+            Status::ReadFault => 3,
+            Status::WriteFault => 4,
+            Status::DiskFault { .. } => 5,
+            Status::Damaged { .. } => 6,
+            Status::Memory => 7,
+            Status::NotYet { .. } => 10,
+        }
+    }
+
+    /// The line on standard error; empty where there is none.
+    pub fn text(&self, alloc: Global) -> Result<String, AllocError> {
+        match self {
+            Status::Done => Ok(String::new(alloc)),
+            Status::Usage => String::from_str(alloc, "gitstore: usage\n"),
+            Status::ReadFault => String::from_str(alloc, "gitstore: read fault\n"),
+            Status::WriteFault => String::from_str(alloc, "gitstore: write fault\n"),
+            Status::DiskFault { disk } => format!(in alloc; "gitstore: disk {disk} fault\n"),
+            Status::Damaged { disk, file, at } => {
+                let kind = file.kind;
+                let number = file.number;
+                format!(in alloc; "gitstore: damaged {disk} {kind}-{number} {at}\n")
+            }
+            Status::Memory => String::from_str(alloc, "gitstore: memory\n"),
+            Status::NotYet { line } => format!(in alloc; "gitstore: not yet {line}\n"),
+        }
+    }
+}

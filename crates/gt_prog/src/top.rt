@@ -1,0 +1,73 @@
+ghost use Rattle.std.specs.Prelude.{◌≡◌, ◌≤◌, ◌↔◌, ℕ, false, map, Err};
+ghost use Rattle.gt_disk.specs.Files.{Rose};
+ghost use Rattle.gt_prog.specs.Statuses.{IsBadAt, IsDone, IsCutShort, IsBroken, IsBreak, IsEarly, ReadsInput, RoseEither};
+ghost use Rattle.gt_model.specs.Usual.{usual};
+ghost use Rattle.gt_prog.specs.Words.{is_replay};
+
+use crate::request::Request;
+use crate::script::{ScriptError, parse_script};
+use crate::status::Status;
+use crate::words::is_replay;
+use crate::working::work;
+use gt_disk::Disk;
+use gt_model::Limits;
+use gt_outside::{Host, ReadError, Sink, Source, read_whole};
+use std::alloc::Global;
+
+/// The greatest input, in bytes.
+const INPUT_LIMIT: usize = 524_288;
+
+/// All that the program does, on one thread.
+///
+/// The only words are the one word `replay`: the whole input is read, then its lines are read, then the disk of the
+/// partition is taken and mounted, and then the lines are done, each answer written before the next line is done.
+pub fn gitstore_plain<H: Host, S: Source, K: Sink>(
+    alloc: Global,
+    words: &[&str],
+    host: &mut H,
+    source: &mut S,
+    sink: &mut K,
+) -> Status
+    requires { (n : ℕ) → H.is_out host.old n ≡ false }
+
+    // What was done and written, by the status.
+    ensures done { result ≡ Status.Done → IsDone H.D.tells usual (S.left source.old) (H.disk_view host.old 1) (H.disk_view host.new 1) (K.written sink.old) (K.written sink.new) }
+    ensures cut_short { result ≡ Status.WriteFault → IsCutShort H.D.tells usual (S.left source.old) (H.disk_view host.old 1) (H.disk_view host.new 1) (K.written sink.old) (K.written sink.new) }
+    ensures broken { IsBreak result → IsBroken H.D.tells usual (S.left source.old) (H.disk_view host.old 1) (H.disk_view host.new 1) (K.written sink.old) (K.written sink.new) }
+    ensures untouched { IsEarly result → (H.disk_view host.new 1 ≡ H.disk_view host.old 1) × (K.written sink.new ≡ K.written sink.old) }
+
+    // Its cause.
+    ensures usage { (result ≡ Status.Usage) ↔ (is_replay (map (λ w. w.now) words.now) ≡ false) }
+    ensures not_yet { (line : ℕ) → result ≡ Status.NotYet line → IsBadAt (S.left source.old) line }
+    ensures read { result ≡ Status.ReadFault → Rose (S.faults source.old) (S.faults source.new) }
+    ensures write { result ≡ Status.WriteFault → Rose (K.faults sink.old) (K.faults sink.new) }
+    ensures device { (disk : ℕ) → result ≡ Status.DiskFault disk → (disk ≡ 1) × RoseEither (H.faults host.old) (H.faults host.new) (H.disk_faults host.old 1) (H.disk_faults host.new 1) }
+    ensures back { (n : ℕ) → H.is_out host.new n ≡ false }
+{
+    if !is_replay(words) {
+        return Status::Usage;
+    }
+    match requests_in(alloc, source) {
+        Err(status) => status,
+        Ok(requests) => work(alloc, Limits::usual(), host, sink, &requests),
+    }
+}
+
+/// The requests of the whole input.
+fn requests_in<S: Source>(alloc: Global, source: &mut S) -> Result<Vec<Request>, Status>
+    ensures input { ReadsInput result (S.left source.old) }
+    ensures later { S.faults source.old ≤ S.faults source.new }
+    ensures read { result ≡ Err Status.ReadFault → Rose (S.faults source.old) (S.faults source.new) }
+{
+    let bytes = match read_whole(alloc, source, INPUT_LIMIT) {
+        Ok(bytes) => bytes,
+        Err(ReadError::Failed) => return Err(Status::ReadFault),
+        Err(ReadError::TooLong) => return Err(Status::NotYet { line: 0 }),
+        Err(ReadError::Memory) => return Err(Status::Memory),
+    };
+    match parse_script(alloc, &bytes) {
+        Ok(requests) => Ok(requests),
+        Err(ScriptError::NotYet { line }) => Err(Status::NotYet { line }),
+        Err(ScriptError::Memory) => Err(Status::Memory),
+    }
+}
