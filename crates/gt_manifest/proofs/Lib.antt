@@ -1,0 +1,4 @@
+pub mod WalkLemmas
+pub mod PutLemmas
+pub mod FieldLemmas
+pub mod ManifestLemmas

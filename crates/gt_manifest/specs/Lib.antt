@@ -1,0 +1,4 @@
+pub mod Answers
+pub mod Spelling
+pub mod Reading
+pub mod Whole

@@ -1,0 +1,5 @@
+pub mod LooseLemmas
+pub mod PartsLemmas
+pub mod ListLemmas
+pub mod LineLemmas
+pub mod ReadBack

@@ -1,0 +1,29 @@
+use Rattle.std.proofs.Common.{◌≡◌, ◌∙◌, [], None, true, false, eqb, arith, length, refl, sym}
+use Rattle.std.proofs.lemmas.Result.{err_from_is_err_and}
+use Rattle.gt_reftext.specs.Packed.{read_from}
+use Rattle.gt_reftext.specs.Answers.{seen}
+use Rattle.gt_reftext.proofs.PartsLemmas.{line_goes, line_fails, line_ends}
+use Rattle.gt_reftext.proofs.reading.read_lines.Goals as goal
+
+pub returns-in_err-sofar : goal.returns-in_err-sofar
+returns-in_err-sofar c =
+    let p = err_from_is_err_and c.from_residual.result c.from_residual.ensures.1 in
+    rw (p.1, p.2) (line_fails c.in_err-sofar.field-0.0 c.lines.number (seen c.lines.sofar) c.lines.rest.now c.in-Some.line.now c.in-Some.after.now (read_from ([], None) 1 c.args.text.now) c.in-Some.ensures.0 c.in_err-sofar.ensures c.lines.invariant.so_far)
+
+pub lines-preserved : goal.lines-preserved
+lines-preserved c = record {
+  counted = omega (arith, c.in-Some.ensures.1, c.lines.invariant.counted);
+  so_far = line_goes c.lines.number (seen c.lines.sofar) (seen c.in_ok-sofar.sofar) c.lines.rest.now c.in-Some.line.now c.in-Some.after.now (read_from ([], None) 1 c.args.text.now) c.in-Some.ensures.0 c.in_ok-sofar.ensures c.lines.invariant.so_far;
+}
+
+pub returns-then-not-is_empty : goal.returns-then-not-is_empty
+returns-then-not-is_empty c =
+    let ends = line_ends c.lines.number (seen c.lines.sofar) c.lines.rest.now (read_from ([], None) 1 c.args.text.now) c.in_default.ensures c.lines.invariant.so_far in
+    let test : eqb (length c.lines.rest.now) 0 ≡ false = sym c.is_empty.ensures ∙ c.if-not-is_empty.true in
+    ends ∙ rw test refl
+
+pub returns : goal.returns
+returns c =
+    let ends = line_ends c.lines.number (seen c.lines.sofar) c.lines.rest.now (read_from ([], None) 1 c.args.text.now) c.in_default.ensures c.lines.invariant.so_far in
+    let test : eqb (length c.lines.rest.now) 0 ≡ true = sym c.is_empty.ensures ∙ c.if-not-is_empty.false in
+    ends ∙ rw test refl

@@ -1,0 +1,35 @@
+-- What the code's answers say of the definitions.
+use Rattle.std.specs.Prelude.{◌≡◌, ℕ, Result, Ok, Err, Option, Some, None}
+use Rattle.gt_reftext.specs.declared.error.RefTextError.{RefTextError}
+use Rattle.gt_reftext.specs.declared.error.RefTextError.TheVariants.{BadLine, Memory}
+use Rattle.gt_reftext.specs.declared.sofar.Sofar.{Sofar}
+use Rattle.gt_reftext.specs.Packed as packed
+
+-- The error is the number of the first bad line, or memory ran out.
+abbrev pub Fails : {A : Type 0} → RefTextError → Result A ℕ → Type 0
+Fails Memory read = Unit {0}
+Fails (BadLine line) read = read ≡ Err line
+
+-- What was answered is what is read, or memory ran out.
+abbrev pub Gives : {A : Type 0} → Result A RefTextError → Result A ℕ → Type 0
+Gives (Ok x) read = read ≡ Ok x
+Gives (Err e) read = Fails e read
+
+-- the references so far as the definitions see them
+abbrev pub seen : Sofar → packed.Sofar
+seen s = (s.done.entries, s.last)
+
+-- What was answered is what the line makes of those so far, or memory ran out.
+abbrev pub Moves : ℕ → Result Sofar RefTextError → Option packed.Sofar → Type 0
+Moves number (Ok s) after = after ≡ Some (seen s)
+Moves number (Err Memory) after = Unit {0}
+Moves number (Err (BadLine line)) after = (after ≡ None) × (line ≡ number)
+
+abbrev pub GivesSofar : Result Sofar RefTextError → Result packed.Sofar ℕ → Type 0
+GivesSofar (Ok s) read = read ≡ Ok (seen s)
+GivesSofar (Err e) read = Fails e read
+
+-- What was answered is this.
+abbrev pub Is : Option Sofar → Option packed.Sofar → Type 0
+Is None after = after ≡ None
+Is (Some s) after = after ≡ Some (seen s)

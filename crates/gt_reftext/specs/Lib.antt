@@ -1,0 +1,5 @@
+pub mod Loose
+pub mod Lines
+pub mod Packed
+pub mod Spelling
+pub mod Answers

@@ -1,0 +1,42 @@
+ghost use Rattle.std.specs.Prelude.{◌≡◌, [], IfOk};
+ghost use Rattle.gt_reftext.specs.Packed.{read_from, packed_of, Ascends};
+ghost use Rattle.gt_reftext.specs.Answers.{Gives, GivesSofar};
+
+use crate::lines::first_line;
+use crate::sofar::{Sofar, after_line, nothing, whole};
+use crate::{PackedList, RefTextError};
+use std::alloc::Global;
+
+/// The references of all lines.
+fn read_lines(alloc: Global, text: &[u8]) -> Result<Sofar, RefTextError>
+    ensures { GivesSofar result (read_from ([], None) 1 text.now) }
+{
+    let mut sofar = nothing(alloc);
+    let mut rest = text;
+    let mut number = 1;
+    'lines: while let Some((line, after)) = first_line(rest) {
+        sofar = after_line(alloc, sofar, number, line)?;
+        rest = after;
+        number += 1;
+    }
+    if !rest.is_empty() {
+        return Err(RefTextError::BadLine { line: number });
+    }
+    Ok(sofar)
+}
+
+/// Reads a packed file: lines that each end with a line feed. A first line that begins with `#` is passed over, whatever
+/// it says. Each other line is `<40 hex> SP <name>`, after which one line `^<40 hex>` may have the peeled name. All hex
+/// digits are in lower case. The lines may stand in any order; the list ascends by name. An empty file is the empty list.
+///
+/// `BadLine` has the first line, counted from 1, that is none of these, has a bad name or a value of 40 zeros, has a name
+/// that stands on an earlier line, or is the last one and has no line feed. `Memory` is given only where memory ran out.
+pub fn read_packed(alloc: Global, bytes: &[u8]) -> Result<PackedList, RefTextError>
+    // The list of the lines, or the first bad line.
+    ensures exact { Gives result (packed_of bytes.now) }
+    ensures ascending { IfOk result Ascends }
+{
+    let sofar = read_lines(alloc, bytes)?;
+    let list = whole(alloc, sofar)?;
+    Ok(list)
+}
