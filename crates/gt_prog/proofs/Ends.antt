@@ -7,7 +7,7 @@ use Rattle.gt_prog.specs.declared.playing.PlayCause.TheVariants.{Write, Device, 
 use Rattle.gt_prog.specs.declared.request.Request.{Request}
 use Rattle.gt_prog.specs.declared.status.Status.{Status}
 use Rattle.gt_prog.specs.declared.status.Status.TheVariants.{Done, Usage, ReadFault, WriteFault, DiskFault, Damaged, Memory, NotYet}
-use Rattle.gt_prog.specs.Replay.{Replayed, ReplayedPart}
+use Rattle.gt_prog.specs.Replay.{ReplayedPart}
 use Rattle.gt_prog.specs.Statuses.{Asks, IsBreak, IsUntouched, IsDone, IsCutShort, IsBroken, WorkEnds, status_of_play}
 
 module _ (tells : Bool) (limits : Limits) (requests : List Request) (old new : View) (written out : Option (List ℕ)) where

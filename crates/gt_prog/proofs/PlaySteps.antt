@@ -1,9 +1,10 @@
 -- Lines done one after another, and the whole work.
-use Rattle.std.proofs.Common.{◌≡◌, ⊎_elim, ℕ, ◌+◌, ◌≤◌, ◌<◌, Bool, true, false, List, [], ◌∷◌, ◌++◌, map, take, drop, length, get_or, Option, Some, None, Result, Ok, Err, refl, sym, ◌∙◌, ap, subst, arith, append_assoc, take-append-drop, IsTrue}
+use Rattle.std.proofs.Common.{◌≡◌, ⊎_elim, ℕ, ◌+◌, ◌≤◌, ◌<◌, Bool, List, [], ◌∷◌, ◌++◌, map, take, drop, length, get_or, Option, Some, None, Ok, Err, refl, sym, ◌∙◌, ap, subst, arith, append_assoc, take-append-drop, IsTrue}
 use Rattle.std.proofs.lemmas.Bool.{cases_lt}
 use Rattle.std.proofs.lemmas.List.{append-nil, take_more, map-append}
 use Rattle.std.proofs.lemmas.Grind.{flat_map-append}
 use Rattle.std.specs.List.{flat_map}
+use Rattle.gt_disk.specs.declared.file_id.FileId.{FileId}
 use Rattle.gt_disk.specs.Files.{Files, States, View, now, IsImage}
 use Rattle.gt_disk.specs.Moments.{Narrows}
 use Rattle.gt_model.specs.declared.entry.Entry.{Entry}
@@ -131,6 +132,10 @@ module _ {D : Type 0} (tells : Bool) (view : D → View) where
 
   pub played_all : (p q : Shown D) (requests : List Request) (n : ℕ) (w v : Option (List ℕ)) → take n requests ≡ requests → Played tells view (take n requests) p q w v → Played tells view requests p q w v
   played_all p q requests n w v all played = subst (λ (l : List Request). Played tells view l p q w v) all played
+
+-- the same damage under the same limits
+pub damage_kept : {D : Type 0} (view : D → View) (old new : Shown D) (d e : D) (file : FileId) (at : ℕ) → new.limits ≡ old.limits → d ≡ e → recover new.limits (view e).reads ≡ Err (file, at) → recover old.limits (view d).reads ≡ Err (file, at)
+damage_kept {D = D} view old new d e file at limits same is = ap (λ (x : D). recover old.limits (view x).reads) same ∙ sym (ap (λ (l : Limits). recover l (view e).reads) limits) ∙ is
 
 -- ---- the whole work
 

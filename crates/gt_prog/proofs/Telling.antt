@@ -1,15 +1,14 @@
 -- Happenings that tell lines.
-use Rattle.std.proofs.Common.{◌≡◌, ◌⊎◌, inl, inr, ⊎_elim, ℕ, Bool, true, false, not, cond, List, [], ◌∷◌, ◌++◌, map, filter, reverse, Result, Ok, Err, refl, sym, ◌∙◌, ap, ap₂}
+use Rattle.std.proofs.Common.{◌≡◌, inl, inr, ℕ, Bool, true, false, cond, List, [], ◌∷◌, ◌++◌, map, filter, reverse, Result, refl, sym, ◌∙◌, ap, ap₂}
 use Rattle.std.proofs.lemmas.List.{map-append, reverse-append}
 use Rattle.std.proofs.lemmas.List.Elements.{filter-append}
 use Rattle.gt_model.specs.declared.answer.Done.{Done}
 use Rattle.gt_model.specs.declared.answer.Refusal.{Refusal}
-use Rattle.gt_model.specs.declared.answer.Refusal.TheVariants.{Memory}
 use Rattle.gt_model.specs.declared.event.Event.TheVariants.{Create}
 use Rattle.gt_model.specs.declared.who.Who.{Who}
 use Rattle.gt_model.specs.Machine.{State}
-use Rattle.gt_model.specs.Histories.{Happening, event, opened}
-use Rattle.gt_part.specs.Shown.{OneEvent, OneOpening, turn_of}
+use Rattle.gt_model.specs.Histories.{Happening}
+use Rattle.gt_part.specs.Shown.{OneEvent, OneOpening}
 use Rattle.gt_prog.specs.Lines.{Line, did, restarted, Told, told_by, told_in, is_kept, AreLines}
 
 abbrev kept_of : List Told → List Told

@@ -1,10 +1,9 @@
 -- What the lines of an input ask for.
 use Rattle.std.specs.Prelude.{ℕ, ◌+◌, ◌-◌, ◌==◌, Bool, ◌&&◌, ◌||◌, nat_le, nat_lt, nat_eq, is_none, List, [], ◌∷◌, ◌++◌, length, take, drop, Option, Some, None, Result, Ok, Err, if◌then◌else◌, codes}
-use Rattle.std.specs.List.{starts_with, ends_with, list_all}
+use Rattle.std.specs.List.{starts_with, list_all}
 use Rattle.std.specs.Option.{option_map}
 use Rattle.std.specs.Cmp.Lexicographic.{pointwise}
 use Rattle.gt_name.specs.Paths.{bad_path}
-use Rattle.gt_model.specs.declared.who.Who.{Who}
 use Rattle.gt_prog.specs.declared.request.Form.{Form}
 use Rattle.gt_prog.specs.declared.request.Form.TheVariants.{Create, Restart}
 use Rattle.gt_prog.specs.declared.request.Request.{Request}

@@ -1,8 +1,7 @@
 -- What each status says.
 use Rattle.std.specs.Prelude.{◌≡◌, ◌⊎◌, ℕ, Bool, IsTrue, List, Option, Result, Ok, Err, IfSome, Vec}
 use Rattle.std.specs.declared.alloc.Global.{Global}
-use Rattle.gt_disk.specs.declared.file_id.FileId.{FileId}
-use Rattle.gt_disk.specs.Files.{View, Rose, now}
+use Rattle.gt_disk.specs.Files.{View, Rose}
 use Rattle.gt_disk.specs.Moments.{Narrows}
 use Rattle.gt_log.specs.declared.mount_cause.MountCause.{MountCause}
 use Rattle.gt_log.specs.declared.mount_cause.MountCause.TheVariants.{DeviceFault, Damaged as DamagedFile, Memory as NoMemoryToMount}
@@ -27,6 +26,10 @@ Asks input requests = IfSome input (λ bytes. script_of input_limit bytes ≡ Ok
 abbrev pub IsBadAt : Option (List ℕ) → ℕ → Type 0
 IsBadAt input line = IfSome input (λ bytes. script_of input_limit bytes ≡ Err line)
 
+-- the input, where it is told, has no bad line
+abbrev pub IsGoodInput : Option (List ℕ) → Type 0
+IsGoodInput input = (requests : List Request) × Asks input requests
+
 -- the statuses before the disk is taken
 abbrev pub IsEarly : Status → Type 0
 IsEarly Done = ⊥
@@ -37,6 +40,17 @@ IsEarly (DiskFault disk) = ⊥
 IsEarly (Damaged disk file at) = ⊥
 IsEarly Memory = ⊥
 IsEarly (NotYet line) = Unit {0}
+
+-- the statuses of the work that follows the reading of the input; want of memory may come of either
+abbrev pub IsUnderway : Status → Type 0
+IsUnderway Done = Unit {0}
+IsUnderway Usage = ⊥
+IsUnderway ReadFault = ⊥
+IsUnderway WriteFault = Unit {0}
+IsUnderway (DiskFault disk) = Unit {0}
+IsUnderway (Damaged disk file at) = Unit {0}
+IsUnderway Memory = ⊥
+IsUnderway (NotYet line) = ⊥
 
 -- the statuses that may come before the requests or among them
 abbrev pub IsBreak : Status → Type 0

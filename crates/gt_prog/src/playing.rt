@@ -1,4 +1,4 @@
-ghost use Rattle.std.specs.Prelude.{◌≡◌, ◌≢◌, ◌≤◌, ◌∷◌, [], ℕ, List, length, IsTrue, IfOk, IfErr, OnOk, OnErr, IsErrOf};
+ghost use Rattle.std.specs.Prelude.{◌≡◌, ◌≢◌, ◌≤◌, ◌∷◌, [], ℕ, List, length, IsTrue, IfOk, IfErr, Err, OnOk, OnErr, IsErrOf};
 ghost use Rattle.gt_disk.specs.Files.{Rose};
 ghost use Rattle.gt_disk.specs.declared.file_id.FileId.{FileId};
 ghost use Rattle.gt_log.specs.declared.mount_cause.MountCause.{MountCause};
@@ -7,6 +7,7 @@ ghost use Rattle.gt_model.specs.Histories.{Happening};
 ghost use Rattle.gt_outside.specs.Written.{AppendsAll, AppendsFront};
 ghost use Rattle.gt_part.specs.Crash.{Holds};
 ghost use Rattle.gt_part.specs.Mounts.{HasMountCause};
+ghost use Rattle.gt_part.specs.Recovery.{recover};
 ghost use Rattle.gt_part.specs.Shown.{HasRun, KeepsPast};
 ghost use Rattle.gt_prog.specs.Played.{DidOne, Played, PlayedPart, is_faulty_reply};
 ghost use Rattle.gt_prog.specs.Printed.{printed_reply};
@@ -53,6 +54,7 @@ fn play_one<D: Disk + Drop>(
     ensures in_vain { IsTrue D.tells → (start : State) (begin : ℕ) (history : List Happening) → HasRun D.view start begin history partition
         → IfErr result (λ e. Holds partition.limits start begin history (D.view e.disk)) }
     ensures past { IsTrue D.tells → IfErr result (λ e. KeepsPast (D.view partition.disk) (D.view e.disk)) }
+    ensures damaged { IfErr result (λ e. (file : FileId) (at : ℕ) → e.cause ≡ MountCause.Damaged file at → IsTrue D.tells → recover partition.limits (D.view e.disk).reads ≡ Err (file, at)) }
 {
     match &request.form {
         Form::Create { path } => {
@@ -102,6 +104,7 @@ pub(crate) fn play<D: Disk + Drop, K: Sink>(
     ensures counts_in_vain { IfErr result (λ e. D.fault_count partition.disk ≤ D.fault_count e.disk) }
     ensures write { IfErr result (λ e. e.cause ≡ PlayCause.Write → Rose (K.faults sink.old) (K.faults sink.new)) }
     ensures device { IfErr result (λ e. e.cause ≡ PlayCause.Device → Rose (D.fault_count partition.disk) (D.fault_count e.disk)) }
+    ensures damaged { IfErr result (λ e. (file : FileId) (at : ℕ) → e.cause ≡ PlayCause.Damaged file at → IsTrue D.tells → recover partition.limits (D.view e.disk).reads ≡ Err (file, at)) }
 {
     let mut partition = partition;
     for request in requests {
@@ -125,6 +128,7 @@ fn not_reopened<D>(error: MountError<D>) -> PlayError<D>
     ensures disk { result.disk ≡ error.disk }
     ensures write { result.cause ≢ PlayCause.Write }
     ensures device { result.cause ≡ PlayCause.Device → error.cause ≡ MountCause.DeviceFault }
+    ensures damaged { (file : FileId) (at : ℕ) → result.cause ≡ PlayCause.Damaged file at → error.cause ≡ MountCause.Damaged file at }
 {
     let cause = match error.cause {
         MountCause::DeviceFault => PlayCause::Device,

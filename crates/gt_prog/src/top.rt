@@ -1,7 +1,9 @@
-ghost use Rattle.std.specs.Prelude.{◌≡◌, ◌≤◌, ◌↔◌, ℕ, false, map, Err};
+ghost use Rattle.std.specs.Prelude.{◌≡◌, ◌≤◌, ◌↔◌, ℕ, false, IsTrue, map, Err};
 ghost use Rattle.gt_disk.specs.Files.{Rose};
-ghost use Rattle.gt_prog.specs.Statuses.{IsBadAt, IsDone, IsCutShort, IsBroken, IsBreak, IsEarly, ReadsInput, RoseEither};
+ghost use Rattle.gt_disk.specs.declared.file_id.FileId.{FileId};
 ghost use Rattle.gt_model.specs.Usual.{usual};
+ghost use Rattle.gt_part.specs.Recovery.{recover};
+ghost use Rattle.gt_prog.specs.Statuses.{IsBadAt, IsGoodInput, IsDone, IsCutShort, IsBroken, IsBreak, IsEarly, IsUnderway, ReadsInput, RoseEither};
 ghost use Rattle.gt_prog.specs.Words.{is_replay};
 
 use crate::request::Request;
@@ -39,9 +41,11 @@ pub fn gitstore_plain<H: Host, S: Source, K: Sink>(
     // Its cause.
     ensures usage { (result ≡ Status.Usage) ↔ (is_replay (map (λ w. w.now) words.now) ≡ false) }
     ensures not_yet { (line : ℕ) → result ≡ Status.NotYet line → IsBadAt (S.left source.old) line }
+    ensures good_input { IsUnderway result → IsGoodInput (S.left source.old) }
     ensures read { result ≡ Status.ReadFault → Rose (S.faults source.old) (S.faults source.new) }
     ensures write { result ≡ Status.WriteFault → Rose (K.faults sink.old) (K.faults sink.new) }
     ensures device { (disk : ℕ) → result ≡ Status.DiskFault disk → (disk ≡ 1) × RoseEither (H.faults host.old) (H.faults host.new) (H.disk_faults host.old 1) (H.disk_faults host.new 1) }
+    ensures damaged { (disk : ℕ) (file : FileId) (at : ℕ) → result ≡ Status.Damaged disk file at → (disk ≡ 1) × (IsTrue H.D.tells → recover usual (H.disk_view host.new 1).reads ≡ Err (file, at)) }
     ensures back { (n : ℕ) → H.is_out host.new n ≡ false }
 {
     if !is_replay(words) {

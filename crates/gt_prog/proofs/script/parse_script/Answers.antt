@@ -1,4 +1,4 @@
-use Rattle.std.proofs.Common.{List, ap, arith, Vec, Global}
+use Rattle.std.proofs.Common.{ap, arith, Vec, Global}
 use Rattle.gt_prog.specs.declared.request.Request.{Request}
 use Rattle.gt_prog.proofs.ScriptSteps.{pushed_to, kept_to}
 use Rattle.gt_prog.proofs.script.parse_script.Goals.{then-byte-eq10+in_default, else-byte-eq10}
