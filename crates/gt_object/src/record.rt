@@ -1,4 +1,7 @@
-ghost use Rattle.std.specs.Prelude.{◌≡◌, ◌++◌, ◌+◌, ◌<◌, ◌≤◌, length, IfOk, IfErr, Some, None, nat_lt};
+ghost use Rattle.std.specs.Prelude.{◌≡◌, ◌++◌, ◌+◌, ◌<◌, ◌≤◌, length, IfOk, IfErr, Some, None, nat_eq, nat_lt};
+ghost use Rattle.std.specs.Cmp.Lexicographic.{pointwise};
+ghost use Rattle.std.specs.Cmp.Rules.{comparing};
+ghost use Rattle.std.proofs.Common.{rules};
 ghost use Rattle.sha1.specs.Sha1.{sha1};
 ghost use Rattle.gt_object.specs.declared.error.ObjectError.TheVariants.{Memory};
 ghost use Rattle.gt_object.specs.Header.{header, kind_of};
@@ -9,7 +12,7 @@ use crate::deps::content_deps;
 use crate::header::{MAX, header_len, header_of, spelled};
 use crate::{Kind, ObjectError};
 use gt_name::{Name, Names};
-use std::alloc::Global;
+use std::alloc::{AllocError, Global};
 use std::marker::Model;
 
 /// A record: the header of a content, and the content. A contract sees it as its bytes.
@@ -29,6 +32,33 @@ impl Model for Record {
     ghost view = { λ r. r.bytes.items };
 
     ghost invariant = { λ r. Holds r.kind r.begin r.bytes.items };
+}
+
+impl Clone for Record {
+    ghost is_clone = { λ a b. b ≡ a };
+
+    fn clone(&self) -> Result<Record, AllocError> {
+        let bytes = self.bytes.clone()?;
+        Ok(Record {
+            kind: self.kind,
+            begin: self.begin,
+            bytes,
+        })
+    }
+}
+
+impl PartialEq for Record {
+    ghost eq = { pointwise nat_eq };
+
+    ghost laws = { Prim.search (comparing, rules) };
+
+    fn eq(&self, other: &Record) -> bool {
+        self.bytes.as_slice() == other.bytes.as_slice()
+    }
+}
+
+impl Eq for Record {
+    ghost laws = { Prim.search (comparing, rules) };
 }
 
 impl Record {
