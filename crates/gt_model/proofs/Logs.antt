@@ -1,14 +1,15 @@
 -- Logs in two parts.
-use Rattle.std.proofs.Common.{◌≡◌, ℕ, ◌+◌, Bool, true, false, cond, is_some, List, [], ◌∷◌, ◌++◌, length, Option, Some, None, refl, sym, ◌∙◌, ap, subst, arith, IsTrue}
-use Rattle.std.specs.Ordering.{eq_by_cmp}
-use Rattle.std.specs.Cmp.Lexicographic.{nat_list_cmp_total}
-use Rattle.std.specs.FinMap as map
-use Rattle.std.specs.FinMap.{get-insert, get-empty}
+use Rattle.std.proofs.Common.{◌≡◌, ℕ, ◌+◌, List, [], ◌∷◌, ◌++◌, length, Option, Some, None, refl, sym, subst, arith, IsTrue, All}
+use Rattle.std.proofs.lemmas.Bool.{and_parts}
+use Rattle.std.proofs.lemmas.List.Elements.{All-weaker}
+use Rattle.std.proofs.lemmas.List.Sums.{AllPass-from_list_all}
+use Rattle.std.specs.Cmp.Lexicographic.{same_text}
+use Rattle.gt_model.specs.declared.added.Added.{Added}
 use Rattle.gt_model.specs.declared.change.Change.{Change}
-use Rattle.gt_model.specs.declared.change.Change.TheVariants.{Create}
-use Rattle.gt_name.specs.Paths.{IsPath}
+use Rattle.gt_model.specs.declared.change.Change.TheVariants.{Write}
 use Rattle.gt_model.specs.declared.entry.Entry.{Entry}
-use Rattle.gt_model.specs.Contents.{Content, nothing, key_cmp, new_repo, has_repo, changed, after, after_all, fits, IsLegal}
+use Rattle.gt_model.specs.declared.update.RefUpdate.{RefUpdate}
+use Rattle.gt_model.specs.Contents.{Content, nothing, after, after_all, value_or_zero, finds_old, change_fits, fits, IsLegal}
 use Rattle.gt_model.specs.Machine.{with_doubt, content}
 
 pub after_all-append : (c : Content) (one two : List Entry) → after_all c (one ++ two) ≡ after_all (after_all c one) two
@@ -17,16 +18,16 @@ after_all-append c (e ∷ es) two = after_all-append (after c e) es two
 
 pub legal_front : (c : Content) (p : ℕ) (one two : List Entry) → IsLegal c p (one ++ two) → IsLegal c p one
 legal_front c p [] two legal = tt
-legal_front c p (e ∷ es) two legal = (legal.0, legal.1, legal.2, legal_front (after c e) (p + 1) es two legal.3)
+legal_front c p (e ∷ es) two legal = (legal.0, legal.1, legal_front (after c e) (p + 1) es two legal.2)
 
 pub legal_rest : (c : Content) (p : ℕ) (one two : List Entry) → IsLegal c p (one ++ two) → IsLegal (after_all c one) (p + length one) two
 legal_rest c p [] two legal = subst (λ (n : ℕ). IsLegal c n two) (let e : p ≡ p + 0 = omega arith in e) legal
 legal_rest c p (e ∷ es) two legal =
-    subst (λ (n : ℕ). IsLegal (after_all (after c e) es) n two) (let is : p + 1 + length es ≡ p + length (e ∷ es) = omega arith in is) (legal_rest (after c e) (p + 1) es two legal.3)
+    subst (λ (n : ℕ). IsLegal (after_all (after c e) es) n two) (let is : p + 1 + length es ≡ p + length (e ∷ es) = omega arith in is) (legal_rest (after c e) (p + 1) es two legal.2)
 
-pub legal_append : (c : Content) (p : ℕ) (log : List Entry) (e : Entry) → IsLegal c p log → e.position ≡ p + length log → IsPath e.path → IsTrue (fits (after_all c log) e) → IsLegal c p (log ++ e ∷ [])
-legal_append c p [] e legal at good fit = ((let is : e.position ≡ p = omega (arith, at) in is), good, fit, tt)
-legal_append c p (x ∷ xs) e legal at good fit = (legal.0, legal.1, legal.2, legal_append (after c x) (p + 1) xs e legal.3 (omega (arith, at)) good fit)
+pub legal_append : (c : Content) (p : ℕ) (log : List Entry) (e : Entry) → IsLegal c p log → e.position ≡ p + length log → IsTrue (fits (after_all c log) e) → IsLegal c p (log ++ e ∷ [])
+legal_append c p [] e legal at fit = ((let is : e.position ≡ p = omega (arith, at) in is), fit, tt)
+legal_append c p (x ∷ xs) e legal at fit = (legal.0, legal.1, legal_append (after c x) (p + 1) xs e legal.2 (omega (arith, at)) fit)
 
 pub legal_without_doubt : (log : List Entry) (doubt : Option Entry) → IsLegal nothing 1 (with_doubt log doubt) → IsLegal nothing 1 log
 legal_without_doubt log None legal = legal
@@ -35,17 +36,14 @@ legal_without_doubt log (Some e) legal = legal_front nothing 1 log (e ∷ []) le
 pub content-push : (log : List Entry) (e : Entry) → content (log ++ e ∷ []) ≡ after (content log) e
 content-push log e = after_all-append nothing log (e ∷ [])
 
-has_repo-changed : (c : Content) (path : List ℕ) (change : Change) (q : List ℕ) → has_repo (changed c path change) q ≡ cond (eq_by_cmp key_cmp q path) true (has_repo c q)
-unfolding changed
-has_repo-changed c path (Create pool) q = ap is_some (get-insert nat_list_cmp_total c path (new_repo pool) q) ∙ by (eq_by_cmp key_cmp q path)
-  where
-    by : (b : Bool) → is_some (cond b (Some (new_repo pool)) (map.get c q)) ≡ cond b true (is_some (map.get c q))
-    by true = refl
-    by false = refl
+-- the updates of a write that fits find their old values
+write_finds_old : (c : Content) (path : List ℕ) (refs : List RefUpdate) (needed : List (List ℕ)) (added : List Added) → IsTrue (change_fits c path (Write refs needed added)) → All (λ u. value_or_zero c path u.name ≡ u.old) refs
+write_finds_old c path refs needed added h =
+    let front = (and_parts _ _ h).0 in
+    All-weaker (λ u. IsTrue (finds_old c path u)) (λ u. value_or_zero c path u.name ≡ u.old) (λ u e. sym (same_text u.old (value_or_zero c path u.name) (sym e))) refs (AllPass-from_list_all (finds_old c path) refs (and_parts _ _ front).1)
 
--- what an entry makes is there, and the rest as it was
-pub has_repo-after : (c : Content) (e : Entry) (q : List ℕ) → has_repo (after c e) q ≡ cond (eq_by_cmp key_cmp q e.path) true (has_repo c q)
-has_repo-after c e q = has_repo-changed c e.path e.change q
-
-pub has_repo-nothing : (q : List ℕ) → has_repo nothing q ≡ false
-has_repo-nothing q = ap is_some (get-empty key_cmp q)
+pub legal-old_values : (c : Content) (p : ℕ) (one two : List Entry) (e : Entry) (refs : List RefUpdate) (needed : List (List ℕ)) (added : List Added) → e.change ≡ Write refs needed added → IsLegal c p (one ++ e ∷ two)
+    → All (λ u. value_or_zero (after_all c one) e.path u.name ≡ u.old) refs
+legal-old_values c p one two e refs needed added is legal =
+    let fit : IsTrue (fits (after_all c one) e) = (legal_rest c p one (e ∷ two) legal).1 in
+    write_finds_old (after_all c one) e.path refs needed added (subst (λ (change : Change). IsTrue (change_fits (after_all c one) e.path change)) is fit)

@@ -1,11 +1,13 @@
 -- What has happened to a partition since it was first opened: events, and openings anew.
 use Rattle.std.specs.Prelude.{◌≡◌, ℕ, max, nat_lt, if◌then◌else◌, List, [], ◌∷◌, length, Result, Ok, Err}
-use Rattle.gt_model.specs.declared.answer.Done.{Done}
-use Rattle.gt_model.specs.declared.answer.Done.TheVariants.{Created}
-use Rattle.gt_model.specs.declared.answer.Refusal.{Refusal}
+use Rattle.gt_model.specs.declared.done.Done.{Done}
+use Rattle.gt_model.specs.declared.done.Done.TheVariants.{Created, Deleted, Linked, Begun, Committed, Finished, HouseOpen, HouseDone, Applied, Trimmed, Value, Refs, Object, Named, Staged, Checked, Aborted, Step as StepDone, Swept, Restarted}
+use Rattle.gt_model.specs.declared.event.Event.{Event}
+use Rattle.gt_model.specs.declared.event.Event.TheVariants.{ListRefs, Cat}
+use Rattle.gt_model.specs.declared.refusal.Refusal.{Refusal}
 use Rattle.gt_model.specs.declared.limits.Limits.{Limits}
 use Rattle.gt_model.specs.declared.turn.Turn.{Turn}
-use Rattle.gt_model.specs.Machine.{State, Step, Settles}
+use Rattle.gt_model.specs.Machine.{State, PinsRead, Step, Settles, pin_of}
 
 -- an event or an opening, with the state after it
 pub data Happening : Type 0 where
@@ -21,8 +23,34 @@ abbrev pub state : Happening → State
 state (event turn s) = s
 state (opened t s) = s
 
+-- what a record keeps of an answer
+abbrev pub kept : State → Event → Result Done Refusal → Result Done Refusal
+kept s (ListRefs pin prefix) (Ok done) = Ok (Finished (pin_of s pin).position)
+kept s (Cat pin name) (Ok done) = Ok (Finished (pin_of s pin).position)
+kept s e answer = answer
+
+-- the position that is named by what was done, 0 where none is
 abbrev pub done_position : Done → ℕ
 done_position (Created position pool) = position
+done_position (Deleted position) = position
+done_position (Linked position) = position
+done_position (Begun position) = position
+done_position (Committed position) = position
+done_position (Finished position) = position
+done_position (HouseOpen position) = position
+done_position (HouseDone position) = position
+done_position (Applied position) = position
+done_position (Trimmed low) = 0
+done_position (Value value) = 0
+done_position (Refs list) = 0
+done_position (Object whole) = 0
+done_position (Named name) = 0
+done_position Staged = 0
+done_position Checked = 0
+done_position Aborted = 0
+done_position (StepDone ready) = 0
+done_position Swept = 0
+done_position Restarted = 0
 
 -- the position that an answer acknowledges
 abbrev pub position : Result Done Refusal → ℕ
@@ -48,16 +76,21 @@ abbrev pub acked : State → List Happening → ℕ → ℕ
 acked start [] m = length start.log
 acked start (h ∷ older) m = max (if nat_lt m (tick h) then 0 else acks h) (acked start older m)
 
--- the states before and after what happens at this moment; after the last happening, the last one twice
+-- the states before and after what happens at this moment, whose lines are the two lists of the moment; after the last happening, the last one twice
 abbrev pub around : State → ℕ → List Happening → ℕ → State × State
 around start begin [] m = (start, start)
 around start begin (h ∷ older) m =
     if nat_lt (tick h) m then (state h, state h) else (if nat_lt (last_tick begin older) m then (last_state start older, state h) else around start begin older m)
 
--- An event is a step of the machine, and an opening settles what is in doubt.
+-- An event is a step of the machine, of whose answer the record is kept. An opening settles what is in doubt.
 abbrev pub Happens : Limits → State → Happening → Type 0
-Happens limits old (event turn new) = Step limits old turn.event turn.answer new
+Happens limits old (event turn new) = (answer : Result Done Refusal) × Step limits old turn.event answer new × (turn.answer ≡ kept old turn.event answer)
 Happens limits old (opened t new) = Settles old new
+
+-- These happenings follow each other from the start, where each live transaction reads the log; the newest first.
+abbrev pub IsRun : Limits → State → List Happening → Type 0
+IsRun limits start [] = PinsRead start
+IsRun limits start (h ∷ older) = IsRun limits start older × Happens limits (last_state start older) h
 
 -- the events since the last opening, the newest first
 abbrev pub turns : List Happening → List Turn

@@ -1,8 +1,9 @@
 use crate::Change;
+use gt_list::ListOf;
 use gt_name::RepoPath;
 
 /// One entry of a partition's log.
-#[derive(Clone, Debug, Drop)]
+#[derive(Clone, Debug, Drop, PartialEq)]
 pub struct Entry {
     /// Its place in the log, from 1.
     pub position: u64,
@@ -10,3 +11,5 @@ pub struct Entry {
     pub path: RepoPath,
     pub change: Change,
 }
+
+pub type EntryList = ListOf<Entry>;

@@ -1,20 +1,50 @@
-//! What a reader of this store must believe: contents, entries, the machine of one partition, and its history.
+//! What a reader of this store must believe: contents, entries, the verdict of a commit, the machine of one partition,
+//! and its history.
 #![tactic(auto)]
 
+mod added;
 mod answer;
 mod change;
+mod done;
 mod entry;
 mod event;
+mod job;
 mod laws;
 mod limits;
+mod look;
+mod needer;
+mod plain;
+mod reference;
+mod refusal;
+mod trail;
 mod turn;
+mod update;
 mod who;
+mod word;
 
-pub use answer::{Answer, Done, Refusal};
+pub use added::{Added, AddedRecords};
+pub use answer::Answer;
 pub use change::Change;
-pub use entry::Entry;
+pub use done::Done;
+pub use entry::{Entry, EntryList};
 pub use event::Event;
-pub use laws::{contents_add_up, legal_logs_have_legal_fronts};
+pub use job::Job;
+pub use laws::{
+    contents_add_up, good_commits_keep_contents_sound, later_entries_leave_earlier_positions,
+    legal_logs_find_old_values, legal_logs_have_legal_fronts, runs_keep_what_they_acknowledged,
+    steps_only_grow, what_is_reached_is_present, writes_leave_other_references,
+};
 pub use limits::Limits;
-pub use turn::{Trail, Turn};
+pub use look::Look;
+pub use needer::Needer;
+pub use plain::{PlainContent, PlainOwn, PlainReady, PlainRefs, PlainRepo, verdict};
+pub use reference::{RefAt, RefList, RefValue, RefsAt};
+pub use refusal::Refusal;
+pub use trail::Trail;
+pub use turn::Turn;
+pub use update::{RefUpdate, RefUpdates};
 pub use who::Who;
+pub use word::Word;
+
+#[cfg(test)]
+mod tests;

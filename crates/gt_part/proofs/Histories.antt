@@ -11,16 +11,15 @@ use Rattle.gt_log.proofs.Images.{image_still}
 use Rattle.gt_model.specs.declared.entry.Entry.{Entry}
 use Rattle.gt_model.specs.declared.limits.Limits.{Limits}
 use Rattle.gt_model.specs.declared.turn.Turn.{Turn}
-use Rattle.gt_model.specs.Contents.{nothing, IsLegal}
-use Rattle.gt_model.specs.Machine.{State, sure, line, Settles, Step, is_faulty}
-use Rattle.gt_model.specs.Histories.{Happening, event, opened, last_tick, last_state}
+use Rattle.gt_model.specs.Machine.{State, sure, line, Settles, is_faulty}
+use Rattle.gt_model.specs.Histories.{Happening, event, opened, last_tick, last_state, Happens}
 use Rattle.gt_part.specs.Spelling.{encode}
-use Rattle.gt_part.specs.Recovery.{recover, KeepsFiles, IsGood}
+use Rattle.gt_part.specs.Recovery.{recover, IsKept, KeepsFiles, IsGood}
 use Rattle.gt_part.specs.Stored.{Gives, GivesThis, GivesEither, FilesHave, Stored, Moves}
-use Rattle.gt_part.specs.Crash.{CrashAt, Holds}
+use Rattle.gt_part.specs.Crash.{Holds}
 use Rattle.gt_part.specs.Shown.{Shown, IsRun, HasRun, Continues, OneOpening, KeepsPast, faults_in}
 use Rattle.gt_part.specs.Mounts.{Mounts}
-use Rattle.gt_part.proofs.Recovering.{IsRecovered, recovered, map_last}
+use Rattle.gt_part.proofs.Recovering.{recovered, map_last}
 use Rattle.gt_part.proofs.Events.{stored_gives}
 use Rattle.gt_part.proofs.Safe.{safe, safe_after, run_past}
 
@@ -28,7 +27,7 @@ reverse-push : (trail : List Turn) (turn : Turn) → turn ∷ reverse trail ≡ 
 reverse-push trail turn = sym (reverse-append trail (turn ∷ []))
 
 pub event_more : (limits : Limits) → (start : State) (begin : ℕ) (history : List Happening) (v w : View) (s new : State) (trail : List Turn) (turn : Turn) → turn.tick ≡ w.clock → IsRun limits start begin history v s trail
-    → Step limits s turn.event turn.answer new → Moves limits s new v w → IsRun limits start begin (event turn new ∷ history) w new (trail ++ turn ∷ [])
+    → Happens limits s (event turn new) → Moves limits s new v w → IsRun limits start begin (event turn new ∷ history) w new (trail ++ turn ∷ [])
 event_more limits start begin history v w s new trail turn tick_is run step moves =
     let m = moves run.stored in
     let since : Since (GivesEither limits s new) v w = m.1 in
@@ -37,7 +36,7 @@ event_more limits start begin history v w s new trail turn tick_is run step move
       stored = m.0;
       run = (
         run_past limits start begin v.at w.at history (λ k le. since.past k (omega (arith, le, u_is))) run.run,
-        subst (λ (x : State). Step limits x turn.event turn.answer new) (sym run.leads) step,
+        subst (λ (x : State). Happens limits x (event turn new)) (sym run.leads) step,
         record {
           later = omega (arith, u_is, tick_is, since.later);
           during = λ k lt le. subst (λ (x : State). GivesEither limits x new (w.at k)) (sym run.leads) (since.each k (omega (arith, lt, u_is)) (omega (arith, le, tick_is)));
@@ -72,7 +71,7 @@ keeps_front log u states each k lt = each k (omega (arith, lt, length-append log
 pub stored_good : (limits : Limits) → (s : State) (states : States) → Stored limits s states → IsGood limits states
 stored_good limits s states stored image is = by s.log s.doubt stored.files (stored_gives limits s states stored image is)
   where
-    by : (log : List Entry) (doubt : Option Entry) → FilesHave log doubt states → Gives limits (record { log = log; doubt = doubt }) image → (l : List Entry) × (recover limits image ≡ Ok l) × KeepsFiles l states
+    by : (log : List Entry) (doubt : Option Entry) → FilesHave log doubt states → Gives limits (record { log = log; doubt = doubt; pins = [] }) image → (l : List Entry) × (recover limits image ≡ Ok l) × KeepsFiles l states
     by log None files (inl r) = (log, r, keeps log states files.each)
     by log None files (inr r) = (log, r, keeps log states files.each)
     by log (Some u) files (inl r) = (log, r, keeps_front log u states (keeps (log ++ u ∷ []) states (subst (λ (e : List (List ℕ)). KeepsEntries e states) (sym (map_last log u)) files.each)))
@@ -110,7 +109,7 @@ continues view start begin history P later old p limits this past run = record {
 -- ---- openings
 
 -- what a good disk shows is still
-pub good_entries : (limits : Limits) → (v : View) (log : List Entry) → IsImage (now v) v.reads → IsGood limits (now v) → recover limits v.reads ≡ Ok log → Recovers v.reads (map encode log) × KeepsEntries (map encode log) (now v) × IsLegal nothing 1 log × (length log ≤ limits.positions)
+pub good_entries : (limits : Limits) → (v : View) (log : List Entry) → IsImage (now v) v.reads → IsGood limits (now v) → recover limits v.reads ≡ Ok log → Recovers v.reads (map encode log) × KeepsEntries (map encode log) (now v) × IsKept log × (length log ≤ limits.positions)
 good_entries limits v log shows good is =
     let g = good v.reads shows in
     let r = recovered limits v.reads log is in
@@ -131,8 +130,8 @@ opened_stored limits v w x log shows good is stands quiet =
     let here : now x ≡ now w = ap (λ (k : ℕ). x.at k) quiet.clock ∙ ap (λ (a : ℕ → States). a w.clock) quiet.at in
     record { files = subst (λ (s : States). Stands (map encode log) s) (sym here) (stands (map encode log) e.0 e.1); legal = e.2; within = e.3 }
 
-pub first_opened : (limits : Limits) → (x : View) (s : State) → Stored limits s (now x) → IsRun limits s x.clock [] x s []
-first_opened limits x s stored = record { stored = stored; run = stored_gives limits s (now x) stored; events = refl; leads = refl; clock = refl }
+pub first_opened : (limits : Limits) → (x : View) (log : List Entry) → Stored limits (sure log) (now x) → IsRun limits (sure log) x.clock [] x (sure log) []
+first_opened limits x log stored = record { stored = stored; run = (stored_gives limits (sure log) (now x) stored, tt); events = refl; leads = refl; clock = refl }
 
 pub settled_by : (limits : Limits) → (s : State) (v : View) (log : List Entry) → Stored limits s (now v) → IsImage (now v) v.reads → recover limits v.reads ≡ Ok log → Settles s (sure log)
 settled_by limits s v log stored shows is = ⊎_elim

@@ -1,5 +1,4 @@
-pub mod Replies
-pub mod Spellings
+pub mod Bytes
 pub mod Naming
 pub mod Recovering
 pub mod Events

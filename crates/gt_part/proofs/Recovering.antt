@@ -1,63 +1,107 @@
 -- From files through their spelling to a log, and back.
-use Rattle.std.proofs.Common.{◌≡◌, ◌⊎◌, inl, inr, ⊎_elim, ℕ, zero, suc, ◌+◌, ◌<◌, ◌≤◌, Bool, true, false, cond, nat_lt, List, [], ◌∷◌, ◌++◌, length, take, get_or, map, Some, None, Option, Result, Ok, Err, refl, sym, ap, ◌∙◌, arith, subst, IsTrue, length-append}
+use Rattle.std.proofs.Common.{◌≡◌, ◌⊎◌, inl, inr, ⊎_elim, ℕ, zero, suc, ◌+◌, ◌<◌, ◌≤◌, Bool, true, false, cond, nat_lt, nat_eq, ◌&&◌, List, [], ◌∷◌, ◌++◌, length, get_or, map, Some, None, Result, Ok, Err, refl, sym, ap, ◌∙◌, arith, subst, IsTrue, length-append}
 use Rattle.std.proofs.lemmas.List.{length-map, map-append}
 use Rattle.std.proofs.lemmas.Bool.Decides.{nat_tests}
-use Rattle.std.specs.Option.{unwrap_or}
+use Rattle.std.specs.Prelude.{bytes_eq}
+use Rattle.gt_entry.specs.Fits.{HasChangeSpelling}
+use Rattle.gt_entry.specs.Reading.{entry_of}
+use Rattle.gt_model.specs.declared.change.Change.{Change}
+use Rattle.gt_model.specs.declared.change.Change.TheVariants.{Create, Delete, Link, Write, Repack, Prune, PackRefs, Unlink}
 use Rattle.gt_disk.specs.Files.{Content as FileContent, Files, States, IsImage}
 use Rattle.gt_log.specs.Log.{gate_file, entry_file, content_length, Recovers, Stands, Doubts, Adding}
 use Rattle.gt_log.proofs.Images.{stands_recovers, doubts_recovers, adding_recovers}
-use Rattle.gt_name.specs.Paths.{IsPath}
 use Rattle.gt_model.specs.declared.entry.Entry.{Entry}
 use Rattle.gt_model.specs.declared.limits.Limits.{Limits}
 use Rattle.gt_model.specs.Contents.{Content, nothing, after, fits, IsLegal}
-use Rattle.gt_part.specs.Spelling.{encode, decode}
-use Rattle.gt_part.specs.Recovery.{Damage, fitting, entry_in, and_more, read_log, recover}
-use Rattle.gt_part.proofs.Spellings.{decode_encode, encode_decode, decode_nothing}
+use Rattle.gt_model.specs.Machine.{content}
+use Rattle.gt_model.proofs.Logs.{legal_front, legal_append}
+use Rattle.gt_part.specs.Spelling.{encode, is_creation, IsCreation, IsSpelled, AreSpelled, exactly, placed, decode}
+use Rattle.gt_part.specs.Recovery.{Damage, fitting, entry_in, and_more, read_log, recover, IsKept}
+use Rattle.gt_part.proofs.Bytes.{pointwise-refl, pointwise-true}
 
-given : (b : Bool) (x u : Entry) → cond b (Some x) None ≡ Some u → (b ≡ true) × (x ≡ u)
-given true x u is = (refl, cc (is))
-given false x u is = absurd (cc (is))
+bytes_same : (xs : List ℕ) → bytes_eq xs xs ≡ true
+bytes_same xs = pointwise-refl xs
 
 -- what is in a file at its position is read
-here_is : (c : Content) (p : ℕ) (e : Entry) → e.position ≡ p → IsPath e.path → IsTrue (fits c e) → entry_in (Some (encode e)) c p ≡ Some e
-here_is c p e at good fit = ap (λ (n : ℕ). fitting c (decode n (encode e))) (sym at) ∙ ap (fitting c) (decode_encode e good) ∙ ap (λ b. cond b (Some e) None) fit
+decode_encode : (p : ℕ) (e : Entry) → e.position ≡ p → IsSpelled e → decode p (Some (encode e)) ≡ Ok e
+decode_encode p e at (made, again) =
+    let there : nat_eq e.position p ≡ true = grind (arith, nat_tests, at) in
+    ap (λ r. placed p (exactly (encode e) r)) again
+    ∙ ap (λ b. placed p (cond b (Ok e) (Err 0))) (bytes_same (encode e))
+    ∙ ap (λ b. cond b (Ok e) (Err 4)) there
+
+here_is : (c : Content) (p : ℕ) (e : Entry) → e.position ≡ p → IsSpelled e → IsTrue (fits c e) → entry_in (Some (encode e)) c p ≡ Ok e
+here_is c p e at good fit =
+    ap (fitting c) (decode_encode p e at good)
+    ∙ ap (λ b. cond (b && fits c e) (Ok e) (Err 0)) good.0
+    ∙ ap (λ b. cond b (Ok e) (Err 0)) fit
 
 -- a log is read where each of its entries is in its file
-reads : (files : Files) (c : Content) (p : ℕ) (log : List Entry) → ((k : ℕ) → k < length log → files (entry_file (p + k)) ≡ Some (get_or (map encode log) k [])) → IsLegal c p log → read_log files c p (length log) ≡ Ok log
-reads files c p [] each legal = refl
-reads files c p (u ∷ us) each legal =
+reads : (files : Files) (c : Content) (p : ℕ) (log : List Entry) → ((k : ℕ) → k < length log → files (entry_file (p + k)) ≡ Some (get_or (map encode log) k [])) → IsLegal c p log → AreSpelled log → read_log files c p (length log) ≡ Ok log
+reads files c p [] each legal spelled = refl
+reads files c p (u ∷ us) each legal spelled =
     let here : files (entry_file p) ≡ Some (encode u) = ap (λ (n : ℕ). files (entry_file n)) (let e : p ≡ p + 0 = omega arith in e) ∙ each 0 (omega arith) in
-    let is : entry_in (files (entry_file p)) c p ≡ Some u = ap (λ x. entry_in x c p) here ∙ here_is c p u legal.0 legal.1 legal.2 in
+    let is : entry_in (files (entry_file p)) c p ≡ Ok u = ap (λ x. entry_in x c p) here ∙ here_is c p u legal.0 spelled.0 legal.1 in
     let next : read_log files (after c u) (p + 1) (length us) ≡ Ok us =
-    reads files (after c u) (p + 1) us (λ k lt. ap (λ (n : ℕ). files (entry_file n)) (let e : p + 1 + k ≡ p + suc k = omega arith in e) ∙ each (suc k) (omega (arith, lt))) legal.3 in
-    ap (λ o. and_more o p (λ x. read_log files (after c x) (p + 1) (length us))) is ∙ ap (λ r. and_more (Some u) p (λ x. r)) next
+    reads files (after c u) (p + 1) us (λ k lt. ap (λ (n : ℕ). files (entry_file n)) (let e : p + 1 + k ≡ p + suc k = omega arith in e) ∙ each (suc k) (omega (arith, lt))) legal.2 spelled.1 in
+    ap (λ o. and_more o p (λ x. read_log files (after c x) (p + 1) (length us))) is ∙ ap (λ r. and_more (Ok u) p (λ x. r)) next
 
 not_past : (limits : Limits) (files : Files) → content_length (files gate_file) ≤ limits.positions → recover limits files ≡ read_log files nothing 1 (content_length (files gate_file))
 not_past limits files within =
     let test : nat_lt limits.positions (content_length (files gate_file)) ≡ false = grind (arith, nat_tests) in
     ap (λ (b : Bool). cond b (Err (gate_file, limits.positions)) (read_log files nothing 1 (content_length (files gate_file)))) test
 
-pub recover_is : (limits : Limits) (files : Files) (log : List Entry) → Recovers files (map encode log) → IsLegal nothing 1 log → length log ≤ limits.positions → recover limits files ≡ Ok log
+pub recover_is : (limits : Limits) (files : Files) (log : List Entry) → Recovers files (map encode log) → IsKept log → length log ≤ limits.positions → recover limits files ≡ Ok log
 recover_is limits files log r legal within =
     not_past limits files (omega (arith, r.count, length-map log encode, within))
     ∙ ap (read_log files nothing 1) (r.count ∙ length-map log encode)
-    ∙ reads files nothing 1 log (λ k lt. ap (λ (n : ℕ). files (entry_file n)) (let e : 1 + k ≡ k + 1 = omega arith in e) ∙ r.each k (omega (arith, lt, length-map log encode))) legal
+    ∙ reads files nothing 1 log (λ k lt. ap (λ (n : ℕ). files (entry_file n)) (let e : 1 + k ≡ k + 1 = omega arith in e) ∙ r.each k (omega (arith, lt, length-map log encode))) legal.0 legal.1
 
--- what is read is in the files, and fits
-fitted : (c : Content) (o : Option Entry) (u : Entry) → fitting c o ≡ Some u → (o ≡ Some u) × IsTrue (fits c u)
-fitted c None u is = absurd (cc (is))
-fitted c (Some x) u is = let h = given (fits c x) x u is in (ap Some h.1, ap (fits c) (sym h.1) ∙ h.0)
+-- ---- what is read is in the files, and fits
 
-found : (file : FileContent) (p : ℕ) (u : Entry) → decode p (unwrap_or file []) ≡ Some u → (file ≡ Some (encode u)) × (u.position ≡ p) × IsPath u.path
-found None p u is = let none : None ≡ Some u = sym (decode_nothing p) ∙ is in absurd (cc (none))
-found (Some bytes) p u is = let h = encode_decode p bytes u is in (ap Some h.0, h.1, h.2)
+-- a test was passed
+passed : (b : Bool) (at : ℕ) (x u : Entry) → cond b (Ok x) (Err at) ≡ Ok u → (b ≡ true) × (x ≡ u)
+passed true at x u is = (refl, cc (is))
+passed false at x u is = absurd (cc (is))
+
+both : (a b : Bool) → (a && b) ≡ true → (a ≡ true) × (b ≡ true)
+both true b is = (refl, is)
+both false b is = absurd (cc (is))
+
+fitted : (c : Content) (r : Result Entry ℕ) (u : Entry) → fitting c r ≡ Ok u → (r ≡ Ok u) × IsCreation u × IsTrue (fits c u)
+fitted c (Err at) u is = absurd (cc (is))
+fitted c (Ok x) u is =
+    let h = passed (is_creation x.change && fits c x) 0 x u is in
+    let b = both (is_creation x.change) (fits c x) h.0 in
+    (ap Ok h.1, ap (λ (e : Entry). is_creation e.change) (sym h.1) ∙ b.0, ap (fits c) (sym h.1) ∙ b.1)
+
+placed_there : (p : ℕ) (r : Result Entry ℕ) (u : Entry) → placed p r ≡ Ok u → (r ≡ Ok u) × (u.position ≡ p)
+placed_there p (Err at) u is = absurd (cc (is))
+placed_there p (Ok x) u is =
+    let h = passed (nat_eq x.position p) 4 x u is in
+    let here : x.position ≡ p = grind (arith, nat_tests, h.0) in
+    (ap Ok h.1, ap (λ (e : Entry). e.position) (sym h.1) ∙ here)
+
+exactly_so : (bytes : List ℕ) (r : Result Entry ℕ) (u : Entry) → exactly bytes r ≡ Ok u → (r ≡ Ok u) × (bytes ≡ encode u)
+exactly_so bytes (Err at) u is = absurd (cc (is))
+exactly_so bytes (Ok x) u is =
+    let h = passed (bytes_eq (encode x) bytes) 0 x u is in
+    (ap Ok h.1, sym (pointwise-true (encode x) bytes h.0) ∙ ap encode h.1)
+
+found : (file : FileContent) (p : ℕ) (u : Entry) → decode p file ≡ Ok u → IsCreation u → (file ≡ Some (encode u)) × (u.position ≡ p) × IsSpelled u
+found None p u is made = absurd (cc (is))
+found (Some bytes) p u is made =
+    let a = placed_there p (exactly bytes (entry_of bytes)) u is in
+    let b = exactly_so bytes (entry_of bytes) u a.0 in
+    (ap Some b.1, a.1, (made, ap entry_of (sym b.1) ∙ b.0))
 
 pub record IsRead (files : Files) (c : Content) (p count : ℕ) (log : List Entry) : Type 0 where
   pub count_is : count ≡ length log
   pub each : (k : ℕ) → k < length log → files (entry_file (p + k)) ≡ Some (get_or (map encode log) k [])
   pub legal : IsLegal c p log
+  pub spelled : AreSpelled log
 
-more_is : (r : Result (List Entry) Damage) (u : Entry) (p : ℕ) (log : List Entry) → and_more (Some u) p (λ x. r) ≡ Ok log → (us : List Entry) × (r ≡ Ok us) × (log ≡ u ∷ us)
+more_is : (r : Result (List Entry) Damage) (u : Entry) (p : ℕ) (log : List Entry) → and_more (Ok u) p (λ x. r) ≡ Ok log → (us : List Entry) × (r ≡ Ok us) × (log ≡ u ∷ us)
 more_is (Ok us) u p log is = (us, refl, cc (is))
 more_is (Err e) u p log is = absurd (cc (is))
 
@@ -67,29 +111,30 @@ each_of files c p more u us here rest zero lt = ap (λ (n : ℕ). files (entry_f
 each_of files c p more u us here rest (suc k) lt = ap (λ (n : ℕ). files (entry_file n)) (let e : p + suc k ≡ p + 1 + k = omega arith in e) ∙ rest.each k (omega (arith, lt))
 
 read_one : (files : Files) (c : Content) (p more : ℕ) (log : List Entry) → ((u : Entry) (us : List Entry) → read_log files (after c u) (p + 1) more ≡ Ok us → IsRead files (after c u) (p + 1) more us)
-    → (o : Option Entry) → entry_in (files (entry_file p)) c p ≡ o → and_more o p (λ u. read_log files (after c u) (p + 1) more) ≡ Ok log → IsRead files c p (suc more) log
-read_one files c p more log next None e is = absurd (cc (is))
-read_one files c p more log next (Some u) e is =
+    → (o : Result Entry ℕ) → entry_in (files (entry_file p)) c p ≡ o → and_more o p (λ u. read_log files (after c u) (p + 1) more) ≡ Ok log → IsRead files c p (suc more) log
+read_one files c p more log next (Err at) e is = absurd (cc (is))
+read_one files c p more log next (Ok u) e is =
     let m = more_is (read_log files (after c u) (p + 1) more) u p log is in
-    let f = fitted c (decode p (unwrap_or (files (entry_file p)) [])) u e in
+    let f = fitted c (decode p (files (entry_file p))) u e in
     let rest : IsRead files (after c u) (p + 1) more m.0 = next u m.0 m.1 in
-    let here = found (files (entry_file p)) p u f.0 in
+    let here = found (files (entry_file p)) p u f.0 f.1 in
     subst (λ (l : List Entry). IsRead files c p (suc more) l) (sym m.2) (record {
       count_is = ap suc rest.count_is;
       each = each_of files c p more u m.0 here.0 rest;
-      legal = (here.1, here.2, f.1, rest.legal);
+      legal = (here.1, f.2, rest.legal);
+      spelled = (here.2, rest.spelled);
     })
 
 pub read_back : (files : Files) (c : Content) (p count : ℕ) (log : List Entry) → read_log files c p count ≡ Ok log → IsRead files c p count log
 read_back files c p zero log is =
     let none : [] ≡ log = cc (is) in
-    subst (λ (l : List Entry). IsRead files c p zero l) none (record { count_is = refl; each = λ k lt. absurd (omega (arith, lt)); legal = tt })
+    subst (λ (l : List Entry). IsRead files c p zero l) none (record { count_is = refl; each = λ k lt. absurd (omega (arith, lt)); legal = tt; spelled = tt })
 read_back files c p (suc more) log is = read_one files c p more log (λ u us e. read_back files (after c u) (p + 1) more us e) (entry_in (files (entry_file p)) c p) refl is
 
 -- what is recovered
 pub record IsRecovered (limits : Limits) (image : Files) (log : List Entry) : Type 0 where
   pub files : Recovers image (map encode log)
-  pub legal : IsLegal nothing 1 log
+  pub legal : IsKept log
   pub within : length log ≤ limits.positions
 
 pub recovered : (limits : Limits) (files : Files) (log : List Entry) → recover limits files ≡ Ok log → IsRecovered limits files log
@@ -105,9 +150,36 @@ recovered limits files log is = by (nat_lt limits.positions (content_length (fil
             count = r.count_is ∙ sym (length-map log encode);
             each = λ k lt. ap (λ (n : ℕ). files (entry_file n)) (let e : k + 1 ≡ 1 + k = omega arith in e) ∙ r.each k (omega (arith, lt, length-map log encode));
           };
-          legal = r.legal;
+          legal = (r.legal, r.spelled);
           within = omega (arith, within, r.count_is);
         }
+
+-- the creation of a repository has a spelling
+pub creation_spelling : (c : Change) → is_creation c ≡ true → HasChangeSpelling c
+creation_spelling (Create pool) is = tt
+creation_spelling Delete is = absurd (cc (is))
+creation_spelling (Link pool) is = absurd (cc (is))
+creation_spelling (Write refs needed added) is = absurd (cc (is))
+creation_spelling (Repack file dropped) is = absurd (cc (is))
+creation_spelling (Prune file dropped) is = absurd (cc (is))
+creation_spelling (PackRefs file) is = absurd (cc (is))
+creation_spelling (Unlink file) is = absurd (cc (is))
+
+-- ---- a log in two parts
+
+spelled_front : (one two : List Entry) → AreSpelled (one ++ two) → AreSpelled one
+spelled_front [] two spelled = tt
+spelled_front (e ∷ es) two spelled = (spelled.0, spelled_front es two spelled.1)
+
+spelled_push : (log : List Entry) (e : Entry) → AreSpelled log → IsSpelled e → AreSpelled (log ++ e ∷ [])
+spelled_push [] e spelled good = (good, tt)
+spelled_push (x ∷ xs) e spelled good = (spelled.0, spelled_push xs e spelled.1 good)
+
+pub kept_front : (one two : List Entry) → IsKept (one ++ two) → IsKept one
+kept_front one two kept = (legal_front nothing 1 one two kept.0, spelled_front one two kept.1)
+
+pub kept_push : (log : List Entry) (e : Entry) → IsKept log → e.position ≡ length log + 1 → IsSpelled e → IsTrue (fits (content log) e) → IsKept (log ++ e ∷ [])
+kept_push log e kept at good fit = (legal_append nothing 1 log e kept.0 (omega (arith, at)) fit, spelled_push log e kept.1 good)
 
 -- ---- images
 
@@ -115,11 +187,11 @@ pub map_last : (log : List Entry) (u : Entry) → map encode (log ++ u ∷ []) �
 map_last log u = map-append encode log (u ∷ [])
 
 module _ (limits : Limits) where
-  pub stands_image : (log : List Entry) (states : States) → Stands (map encode log) states → IsLegal nothing 1 log → length log ≤ limits.positions → (image : Files) → IsImage states image → recover limits image ≡ Ok log
+  pub stands_image : (log : List Entry) (states : States) → Stands (map encode log) states → IsKept log → length log ≤ limits.positions → (image : Files) → IsImage states image → recover limits image ≡ Ok log
   stands_image log states stands legal within image is = recover_is limits image log (stands_recovers (map encode log) states stands image is) legal within
 
   -- the log with one entry more, or without it
-  module _ (log : List Entry) (u : Entry) (legal : IsLegal nothing 1 log) (more : IsLegal nothing 1 (log ++ u ∷ [])) (within : length (log ++ u ∷ []) ≤ limits.positions) (image : Files) where
+  module _ (log : List Entry) (u : Entry) (legal : IsKept log) (more : IsKept (log ++ u ∷ [])) (within : length (log ++ u ∷ []) ≤ limits.positions) (image : Files) where
     in_or_out : Recovers image (map encode log) ⊎ Recovers image (map encode log ++ encode u ∷ []) → (recover limits image ≡ Ok log) ⊎ (recover limits image ≡ Ok (log ++ u ∷ []))
     in_or_out = ⊎_elim
         (λ out. inl (recover_is limits image log out legal (omega (arith, within, length-append log (u ∷ [])))))

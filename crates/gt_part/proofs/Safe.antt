@@ -1,66 +1,34 @@
 -- A history is safe at each of its moments.
-use Rattle.std.proofs.Common.{◌≡◌, ◌⊎◌, inl, inr, ⊎_elim, ℕ, ◌+◌, ◌<◌, ◌≤◌, max, Bool, true, false, nat_lt, cond, List, [], ◌∷◌, ◌++◌, length, take, Option, Some, None, Result, Ok, Err, refl, sym, ◌∙◌, ap, subst, arith, length-append}
+use Rattle.std.proofs.Common.{◌≡◌, ◌⊎◌, inl, inr, ⊎_elim, ℕ, ◌<◌, ◌≤◌, max, Bool, true, false, nat_lt, cond, List, [], ◌∷◌, length, take, Option, Some, None, Ok, refl, sym, ◌∙◌, ap, subst, arith, length-append}
 use Rattle.std.proofs.lemmas.Bool.{cases_lt}
 use Rattle.std.proofs.lemmas.List.{take_all, take-append-le}
 use Rattle.std.proofs.lemmas.Bool.Decides.{nat_tests}
 use Rattle.gt_disk.specs.Files.{Files, States, IsImage}
-use Rattle.gt_model.specs.declared.answer.Done.{Done}
-use Rattle.gt_model.specs.declared.answer.Refusal.{Refusal}
-use Rattle.gt_model.specs.declared.answer.Refusal.TheVariants.{DeviceFault, Memory}
 use Rattle.gt_model.specs.declared.entry.Entry.{Entry}
-use Rattle.gt_model.specs.declared.event.Event.{Event}
 use Rattle.gt_model.specs.declared.limits.Limits.{Limits}
-use Rattle.gt_model.specs.Machine.{State, sure, with_doubt, line, Cause, stated, faulted, doubtful, starved, cause_of, Settles, Refuses, Acts, entry_of}
-use Rattle.gt_model.specs.Histories.{Happening, event, opened, tick, state, position, done_position, acks, last_tick, last_state, acked, around, Happens}
+use Rattle.gt_model.specs.Machine.{State, with_doubt, line}
+use Rattle.gt_model.specs.Histories.{Happening, tick, state, acks, last_tick, last_state, acked, around, IsRun}
 use Rattle.gt_part.specs.Recovery.{recover}
 use Rattle.gt_part.specs.Stored.{Gives, GivesThis, GivesEither}
 use Rattle.gt_part.specs.Crash.{Run, IsSafe}
-use Rattle.gt_part.proofs.Replies.{reply_good}
+use Rattle.gt_model.proofs.Runs.{run_acked}
 use Rattle.gt_part.proofs.Recovering.{recovered}
+
+abbrev size : State → ℕ
+size s = length s.log
 
 len_line : (log : List Entry) (doubt : Option Entry) → length log ≤ length (with_doubt log doubt)
 len_line log None = omega arith
 len_line log (Some u) = omega (arith, length-append log (u ∷ []))
 
-abbrev size : State → ℕ
-size s = length s.log
-
-settles_grows : (old new : State) → Settles old new → size old ≤ size new
-settles_grows old new (inl is) = omega (arith, ap size is)
-settles_grows old new (inr is) = omega (arith, ap size is, len_line old.log old.doubt)
-
-refuses_grows : (limits : Limits) (log : List Entry) (e : Event) (refusal : Refusal) (cause : Cause) (new : State) → Refuses cause limits log e refusal new → length log ≤ size new
-refuses_grows limits log e refusal stated new r = omega (arith, ap size r.1)
-refuses_grows limits log e refusal faulted new r = omega (arith, ap size r)
-refuses_grows limits log e refusal (doubtful n) new r = omega (arith, ap size r.1)
-refuses_grows limits log e refusal starved new r = omega (arith, ap size r)
-
-acts_grows : (limits : Limits) (log : List Entry) (e : Event) (answer : Result Done Refusal) (new : State) → Acts limits log e answer new → (length log ≤ size new) × (position answer ≤ size new)
-acts_grows limits log e (Ok done) new acts =
-    let is = ap size acts.1 in
-    let good = reply_good limits log e done acts.0 in
-    (omega (arith, is, length-append log (entry_of log e ∷ [])), omega (arith, good.position, is, length-append log (entry_of log e ∷ [])))
-acts_grows limits log e (Err refusal) new acts = (refuses_grows limits log e refusal (cause_of refusal) new acts, omega arith)
-
-stopped : (answer : Result Done Refusal) → (answer ≡ Err DeviceFault) ⊎ (answer ≡ Err Memory) → position answer ≡ 0
-stopped answer (inl is) = ap position is
-stopped answer (inr is) = ap position is
-
 module _ (limits : Limits) where
-  happens_grows : (old : State) (h : Happening) → Happens limits old h → (size old ≤ size (state h)) × (acks h ≤ size (state h))
-  happens_grows old (event turn new) (inl (log, s, acts)) = let g = acts_grows limits log turn.event turn.answer new acts in (omega (arith, settles_grows old (sure log) s, g.0), g.1)
-  happens_grows old (event turn new) (inr (stops, is)) = (omega (arith, ap size is), omega (arith, stopped turn.answer stops))
-  happens_grows old (opened t new) s = (settles_grows old new s, omega arith)
-
-  acked_step : (b : Bool) (n a top : ℕ) → n ≤ top → a ≤ top → max (cond b 0 n) a ≤ top
-  acked_step true n a top le le2 = omega arith
-  acked_step false n a top le le2 = omega arith
+  -- the machine's part of a run
+  is_run : (start : State) (begin : ℕ) (at : ℕ → States) (history : List Happening) → Run limits start begin at history → IsRun limits start history
+  is_run start begin at [] run = run.1
+  is_run start begin at (h ∷ older) run = (is_run start begin at older run.0, run.1)
 
   acked_le : (start : State) (begin : ℕ) (at : ℕ → States) (history : List Happening) → Run limits start begin at history → (m : ℕ) → acked start history m ≤ size (last_state start history)
-  acked_le start begin at [] run m = omega arith
-  acked_le start begin at (h ∷ older) run m =
-      let g = happens_grows (last_state start older) h run.1 in
-      acked_step (nat_lt m (tick h)) (acks h) (acked start older m) (size (state h)) g.1 (omega (arith, g.0, acked_le start begin at older run.0 m))
+  acked_le start begin at history run m = run_acked limits start history m (is_run start begin at history run)
 
   -- ---- what an image gives is the front of a line
 
@@ -83,7 +51,7 @@ module _ (limits : Limits) where
   Safely n both image = (log : List Entry) × (recover limits image ≡ Ok log) × IsSafe n both.0 both.1 log
 
   safely : (n : ℕ) (old new : State) (image : Files) (log : List Entry) → recover limits image ≡ Ok log → n ≤ length log → (log ≡ take (length log) (line old)) ⊎ (log ≡ take (length log) (line new)) → IsSafe n old new log
-  safely n old new image log is le front = record { all = le; front = front; legal = (recovered limits image log is).legal }
+  safely n old new image log is le front = record { all = le; front = front; legal = (recovered limits image log is).legal.0 }
 
   from_old : (n : ℕ) (old new : State) (image : Files) → n ≤ size old → Gives limits old image → Safely n (old, new) image
   from_old n old new image le gives = let g = given old image gives in (g.log, g.recovers, safely n old new image g.log g.recovers (omega (arith, le, g.long)) (inl g.front))
@@ -109,11 +77,10 @@ module _ (limits : Limits) where
       → (image : Files) → IsImage (at m) image → Safely (acked start history m) (around start begin history m) image
   safe start begin at [] run m ge le image is =
       let here : m ≡ begin = omega (arith, ge, le) in
-      from_old (size start) start start image (omega arith) (run image (subst (λ (k : ℕ). IsImage (at k) image) here is))
+      from_old (size start) start start image (omega arith) (run.0 image (subst (λ (k : ℕ). IsImage (at k) image) here is))
   safe start begin at (h ∷ older) run m ge le image is =
       let u = last_tick begin older in
       let old = last_state start older in
-      let g = happens_grows old h run.1 in
       let low = acked_le start begin at older run.0 m in
       let not_after : nat_lt (tick h) m ≡ false = lt_false (tick h) m le in
       let top = acked_le start begin at (h ∷ older) run m in
@@ -152,7 +119,7 @@ module _ (limits : Limits) where
 
   -- what comes later leaves a history as it was
   pub run_past : (start : State) (begin : ℕ) (at next : ℕ → States) (history : List Happening) → ((m : ℕ) → m ≤ last_tick begin history → next m ≡ at m) → Run limits start begin at history → Run limits start begin next history
-  run_past start begin at next [] past run = subst (λ (x : States). GivesThis limits start x) (sym (past begin (omega arith))) run
+  run_past start begin at next [] past run = (subst (λ (x : States). GivesThis limits start x) (sym (past begin (omega arith))) run.0, run.1)
   run_past start begin at next (h ∷ older) past run = (
     run_past start begin at next older (λ m le. past m (omega (arith, le, run.2.later))) run.0,
     run.1,

@@ -4,7 +4,7 @@ use Rattle.gt_disk.specs.Files.{Files, States, View, now, IsImage}
 use Rattle.gt_model.specs.declared.entry.Entry.{Entry}
 use Rattle.gt_model.specs.declared.limits.Limits.{Limits}
 use Rattle.gt_model.specs.Contents.{nothing, IsLegal}
-use Rattle.gt_model.specs.Machine.{State, line}
+use Rattle.gt_model.specs.Machine.{State, line, PinsRead}
 use Rattle.gt_model.specs.Histories.{Happening, tick, state, last_tick, last_state, acked, around, Happens}
 use Rattle.gt_part.specs.Recovery.{recover}
 use Rattle.gt_part.specs.Stored.{GivesEither, GivesThis}
@@ -15,9 +15,9 @@ pub record Leaves (limits : Limits) (at : ℕ → States) (u t : ℕ) (old new :
   pub during : (m : ℕ) → u < m → m ≤ t → GivesEither limits old new (at m)
   pub end : GivesThis limits new (at t)
 
--- these happenings follow each other from the start
+-- these happenings follow each other from the start, where what is live reads the log
 abbrev pub Run : Limits → State → ℕ → (ℕ → States) → List Happening → Type 0
-Run limits start begin at [] = GivesThis limits start (at begin)
+Run limits start begin at [] = GivesThis limits start (at begin) × PinsRead start
 Run limits start begin at (h ∷ older) =
     Run limits start begin at older × Happens limits (last_state start older) h × Leaves limits at (last_tick begin older) (tick h) (last_state start older) (state h)
 

@@ -1,5 +1,6 @@
 pub mod Book
 pub mod Crash
+pub mod Ended
 pub mod Mounts
 pub mod Named
 pub mod Recovery

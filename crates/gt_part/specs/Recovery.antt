@@ -1,29 +1,29 @@
 -- What the files of a partition recover to.
-use Rattle.std.specs.Prelude.{◌≡◌, ℕ, ◌+◌, ◌<◌, zero, suc, nat_lt, List, [], ◌∷◌, ◌++◌, length, Option, Some, None, Result, Ok, Err, if◌then◌else◌}
-use Rattle.std.specs.Option.{unwrap_or}
+use Rattle.std.specs.Prelude.{◌≡◌, ℕ, ◌+◌, ◌<◌, zero, suc, nat_lt, ◌&&◌, List, [], ◌∷◌, ◌++◌, length, Result, Ok, Err, if◌then◌else◌}
 use Rattle.gt_disk.specs.declared.file_id.FileId.{FileId}
 use Rattle.gt_disk.specs.Files.{Content as FileContent, Files, States, still, IsImage}
 use Rattle.gt_log.specs.Log.{gate_file, entry_file, content_length}
 use Rattle.gt_model.specs.declared.entry.Entry.{Entry}
 use Rattle.gt_model.specs.declared.limits.Limits.{Limits}
-use Rattle.gt_model.specs.Contents.{Content, nothing, after, fits}
-use Rattle.gt_part.specs.Spelling.{decode}
+use Rattle.gt_model.specs.Contents.{Content, nothing, after, fits, IsLegal}
+use Rattle.gt_part.specs.Spelling.{decode, is_creation, AreSpelled}
 
 -- a file that is damaged, and the place in it
 abbrev pub Damage : Type 0
 Damage = FileId × ℕ
 
-abbrev pub fitting : Content → Option Entry → Option Entry
-fitting c None = None
-fitting c (Some e) = if fits c e then Some e else None
+-- It fits the content before it, and is of a kind that is built.
+abbrev pub fitting : Content → Result Entry ℕ → Result Entry ℕ
+fitting c (Ok e) = if is_creation e.change && fits c e then Ok e else Err 0
+fitting c (Err at) = Err at
 
--- the entry of a file that is there, spells an entry at this position, and fits the content before it
-abbrev pub entry_in : FileContent → Content → ℕ → Option Entry
-entry_in file c position = fitting c (decode position (unwrap_or file []))
+-- the entry of a file that is there, spells an entry at this position, and fits the content before it, or the first bad place
+abbrev pub entry_in : FileContent → Content → ℕ → Result Entry ℕ
+entry_in file c position = fitting c (decode position file)
 
-abbrev pub and_more : Option Entry → ℕ → (Entry → Result (List Entry) Damage) → Result (List Entry) Damage
-and_more None position more = Err (entry_file position, 0)
-and_more (Some e) position more = elim (more e) [ Ok es ↦ Ok (e ∷ es) | Err bad ↦ Err bad ]
+abbrev pub and_more : Result Entry ℕ → ℕ → (Entry → Result (List Entry) Damage) → Result (List Entry) Damage
+and_more (Err at) position more = Err (entry_file position, at)
+and_more (Ok e) position more = elim (more e) [ Ok es ↦ Ok (e ∷ es) | Err bad ↦ Err bad ]
 
 -- the next entries from a position on, as many as this, or the first that is damaged
 abbrev pub read_log : Files → Content → ℕ → ℕ → Result (List Entry) Damage
@@ -33,6 +33,10 @@ read_log files c position (suc more) = and_more (entry_in (files (entry_file pos
 -- the log of the files, as many entries as the gate has bytes; or what is damaged, a gate that is longer than the limit first
 abbrev pub recover : Limits → Files → Result (List Entry) Damage
 recover limits files = if nat_lt limits.positions (content_length (files gate_file)) then Err (gate_file, limits.positions) else read_log files nothing 1 (content_length (files gate_file))
+
+-- a log that is legal, and spelled
+abbrev pub IsKept : List Entry → Type 0
+IsKept log = IsLegal nothing 1 log × AreSpelled log
 
 -- a log whose entry files are still
 abbrev pub KeepsFiles : List Entry → States → Type 0

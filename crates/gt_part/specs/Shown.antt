@@ -1,9 +1,9 @@
 -- What clauses see of a partition.
 use Rattle.std.specs.Prelude.{◌≡◌, ◌⊎◌, ℕ, ◌≤◌, ◌+◌, ◌-◌, ◌^◌, if◌then◌else◌, List, [], ◌∷◌, ◌++◌, reverse, Result, Err}
 use Rattle.gt_disk.specs.Files.{View, now}
-use Rattle.gt_model.specs.declared.answer.Done.{Done}
-use Rattle.gt_model.specs.declared.answer.Refusal.{Refusal}
-use Rattle.gt_model.specs.declared.answer.Refusal.TheVariants.{Memory}
+use Rattle.gt_model.specs.declared.done.Done.{Done}
+use Rattle.gt_model.specs.declared.refusal.Refusal.{Refusal}
+use Rattle.gt_model.specs.declared.refusal.Refusal.TheVariants.{Memory}
 use Rattle.gt_model.specs.declared.event.Event.{Event}
 use Rattle.gt_model.specs.declared.limits.Limits.{Limits}
 use Rattle.gt_model.specs.declared.turn.Turn.{Turn}

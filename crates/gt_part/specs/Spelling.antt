@@ -1,30 +1,42 @@
--- How an entry is spelled in its file.
-use Rattle.std.specs.Prelude.{ℕ, ◌-◌, Bool, nat_eq, is_none, ◌&&◌, List, [], ◌∷◌, ◌++◌, length, take, drop, Option, Some, None, codes, if◌then◌else◌}
-use Rattle.std.specs.Int.{w16, w64, to_be_bytes}
-use Rattle.std.specs.List.{ends_with}
-use Rattle.std.specs.Cmp.Lexicographic.{pointwise}
-use Rattle.gt_name.specs.Paths.{bad_path}
+-- How an entry is spelled in its file, and read from it.
+use Rattle.std.specs.Prelude.{◌≡◌, ℕ, Bool, true, false, List, [], ◌∷◌, Some, None, Result, Ok, Err, ◌==◌, bytes_eq, if◌then◌else◌}
+use Rattle.gt_disk.specs.Files.{Content as FileContent}
+use Rattle.gt_entry.specs.Reading.{entry_of}
+use Rattle.gt_entry.specs.Spelling.{spelling}
 use Rattle.gt_model.specs.declared.change.Change.{Change}
 use Rattle.gt_model.specs.declared.change.Change.TheVariants.{Create}
 use Rattle.gt_model.specs.declared.entry.Entry.{Entry}
 
-abbrev pub flag : Bool → ℕ
-flag b = if b then 1 else 0
+abbrev pub encode : Entry → List ℕ
+encode = spelling
 
-abbrev pub change_bytes : Change → List ℕ
-change_bytes (Create pool) = 1 ∷ flag pool ∷ []
+-- whether it is of the kind that is made and read yet
+abbrev pub is_creation : Change → Bool
+is_creation (Create pool) = true
+is_creation change = false
 
--- the magic, the position in 8 bytes, the path behind its length in 2 bytes, and the change; a number's greatest byte is first
-unfoldable pub encode : Entry → List ℕ
-encode e = codes "GTE1" ++ to_be_bytes w64 e.position ++ to_be_bytes w16 (length e.path) ++ e.path ++ change_bytes e.change
+abbrev pub IsCreation : Entry → Type 0
+IsCreation e = is_creation e.change ≡ true
 
--- the only entry at a position that these bytes may spell
-abbrev pub candidate : ℕ → List ℕ → Entry
-candidate position bytes = record { position = position; path = take (length bytes - 16) (drop 14 bytes); change = Create (ends_with nat_eq bytes (1 ∷ [])) }
+-- It is of that kind, and is read again from its spelling.
+abbrev pub IsSpelled : Entry → Type 0
+IsSpelled e = IsCreation e × (entry_of (encode e) ≡ Ok e)
 
-abbrev pub spelled : Entry → List ℕ → Option Entry
-spelled e bytes = if is_none (bad_path e.path) && pointwise nat_eq (encode e) bytes then Some e else None
+abbrev pub AreSpelled : List Entry → Type 0
+AreSpelled [] = Unit {0}
+AreSpelled (e ∷ es) = IsSpelled e × AreSpelled es
 
--- the entry at a position that these bytes spell
-unfoldable pub decode : ℕ → List ℕ → Option Entry
-decode position bytes = spelled (candidate position bytes) bytes
+-- What is read of numbers that are bytes is what they spell.
+abbrev pub exactly : List ℕ → Result Entry ℕ → Result Entry ℕ
+exactly bytes (Ok e) = if bytes_eq (encode e) bytes then Ok e else Err 0
+exactly bytes (Err at) = Err at
+
+-- the position of an entry stands behind the magic
+abbrev pub placed : ℕ → Result Entry ℕ → Result Entry ℕ
+placed position (Ok e) = if e.position == position then Ok e else Err 4
+placed position (Err at) = Err at
+
+-- the entry at this position that a file spells, or the first bad place
+abbrev pub decode : ℕ → FileContent → Result Entry ℕ
+decode position None = Err 0
+decode position (Some bytes) = placed position (exactly bytes (entry_of bytes))

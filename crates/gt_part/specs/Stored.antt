@@ -1,14 +1,15 @@
 -- A state of the machine and the files that hold it.
-use Rattle.std.specs.Prelude.{◌≡◌, ◌⊎◌, ℕ, ◌≤◌, List, length, map, Option, Some, None, Ok}
+use Rattle.std.specs.Prelude.{◌≡◌, ◌⊎◌, ◌≤◌, List, length, map, Option, Some, None, Ok}
 use Rattle.gt_disk.specs.Files.{Files, States, View, now, IsImage}
 use Rattle.gt_disk.specs.Moments.{Since}
+use Rattle.gt_log.specs.declared.log_error.LogError.{LogError}
+use Rattle.gt_log.specs.declared.log_error.LogError.TheVariants.{Untouched, Unsure, Memory}
 use Rattle.gt_log.specs.Log.{Stands, Doubts}
 use Rattle.gt_model.specs.declared.entry.Entry.{Entry}
 use Rattle.gt_model.specs.declared.limits.Limits.{Limits}
-use Rattle.gt_model.specs.Contents.{nothing, IsLegal}
 use Rattle.gt_model.specs.Machine.{State, line}
 use Rattle.gt_part.specs.Spelling.{encode}
-use Rattle.gt_part.specs.Recovery.{recover}
+use Rattle.gt_part.specs.Recovery.{recover, IsKept}
 
 -- an image gives this state, with its doubt or without
 abbrev pub Gives : Limits → State → Files → Type 0
@@ -25,10 +26,16 @@ abbrev pub FilesHave : List Entry → Option Entry → States → Type 0
 FilesHave log None states = Stands (map encode log) states
 FilesHave log (Some e) states = Doubts (map encode log) (encode e) states
 
+-- what is in doubt once an entry wasn't added
+abbrev pub doubt_after : LogError → Entry → Option Entry
+doubt_after Untouched e = None
+doubt_after Unsure e = Some e
+doubt_after Memory e = None
+
 -- the files have this state
 pub record Stored (limits : Limits) (s : State) (states : States) : Type 0 where
   pub files : FilesHave s.log s.doubt states
-  pub legal : IsLegal nothing 1 (line s)
+  pub legal : IsKept (line s)
   pub within : length (line s) ≤ limits.positions
 
 -- An event leaves the new state in the files, and at each of its moments each image gives the old state or the new one.

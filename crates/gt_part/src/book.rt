@@ -1,6 +1,7 @@
 ghost use Rattle.std.specs.Prelude.{◌≡◌, length, is_some};
 ghost use Rattle.std.specs.Option.{ForSome};
 ghost use Rattle.gt_part.specs.Room.{HasRoomFor};
+ghost use Rattle.gt_part.specs.Spelling.{IsCreation};
 
 use crate::table::Table;
 use gt_log::Log;
@@ -14,5 +15,6 @@ pub(crate) struct Book {
     pub(crate) doubt: Option<Entry>,
     pub(crate) ghost counts: { log.len ≡ length table.entries.items },
     pub(crate) ghost doubts: { log.in_doubt ≡ is_some doubt },
+    pub(crate) ghost creates: { ForSome doubt IsCreation },
     pub(crate) ghost room: { ForSome doubt (λ entry. HasRoomFor entry table) },
 }

@@ -3,11 +3,13 @@
 
 mod act;
 mod book;
+mod create;
+mod ended;
 mod loading;
 mod partition;
-mod reply;
 mod spelling;
 mod table;
+mod unread;
 
 pub use partition::Partition;
 

@@ -1,18 +1,20 @@
-ghost use Rattle.std.specs.Prelude.{◌≡◌, ◌≤◌, ◌+◌, length, Err, IsTrue, IfOk};
-ghost use Rattle.gt_disk.specs.Files.{Quiet, Rose, HasDiskCause};
+ghost use Rattle.std.specs.Prelude.{◌≡◌, ◌≢◌, ◌≤◌, ◌+◌, length, Err, Ok, IsTrue, IfOk};
+ghost use Rattle.gt_disk.specs.Files.{Quiet, Rose};
 ghost use Rattle.gt_log.specs.Log.{gate_file, entry_file, content_length};
 ghost use Rattle.gt_log.specs.declared.mount_cause.MountCause.{MountCause};
 ghost use Rattle.gt_model.specs.Contents.{nothing};
 ghost use Rattle.gt_model.specs.Machine.{content};
 ghost use Rattle.gt_part.specs.Recovery.{recover, read_log, entry_in, fitting};
-ghost use Rattle.gt_part.specs.Mounts.{Loads};
+ghost use Rattle.gt_part.specs.Mounts.{Loads, Reads, cause_of};
+ghost use Rattle.gt_part.specs.Spelling.{IsCreation};
+ghost use Rattle.gt_part.specs.declared.unread.Unread.{Unread};
 
 use crate::spelling::decode;
 use crate::table::Table;
+use crate::unread::Unread;
 use gt_disk::{Disk, DiskError, FileId};
-use gt_list::NoMemory;
 use gt_log::{Log, MountCause};
-use gt_model::{Entry, Limits};
+use gt_model::{Change, Entry, Limits};
 use std::alloc::Global;
 
 const GATE: FileId = FileId { kind: 1, number: 0 };
@@ -60,10 +62,8 @@ fn read_entries<D: Disk>(
     let mut table = Table::new(alloc);
     for n in 0..count {
         match read_entry(alloc, log, disk, n + 1, &table) {
-            Err(DiskError::Failed) => return Err(MountCause::DeviceFault),
-            Err(DiskError::Memory) => return Err(MountCause::Memory),
-            Ok(None) => return Err(damaged(n + 1)),
-            Ok(Some(entry)) => {
+            Err(unread) => return Err(cause_of(n + 1, unread)),
+            Ok(entry) => {
                 if let Err(_) = table.prepare(&entry) {
                     return Err(MountCause::Memory);
                 }
@@ -74,16 +74,20 @@ fn read_entries<D: Disk>(
     Ok(table)
 }
 
-/// The entry at this position is damaged.
-fn damaged(position: u64) -> MountCause
-    ensures { result ≡ MountCause.Damaged (entry_file position) 0 }
+/// Why an opening ends where the entry at this position isn't read.
+fn cause_of(position: u64, unread: Unread) -> MountCause
+    ensures { result ≡ cause_of position unread }
 {
-    MountCause::Damaged {
-        file: FileId {
-            kind: ENTRY,
-            number: position,
+    match unread {
+        Unread::Failed => MountCause::DeviceFault,
+        Unread::Damaged { at } => MountCause::Damaged {
+            file: FileId {
+                kind: ENTRY,
+                number: position,
+            },
+            at,
         },
-        at: 0,
+        Unread::Memory => MountCause::Memory,
     }
 }
 
@@ -94,28 +98,39 @@ fn read_entry<D: Disk>(
     disk: &mut D,
     number: u64,
     table: &Table,
-) -> Result<Option<Entry>, DiskError>
+) -> Result<Entry, Unread>
     ensures quiet { IsTrue D.tells → Quiet (D.view disk.old) (D.view disk.new) }
     ensures later { (D.view disk.old).clock ≤ (D.view disk.new).clock }
-    ensures cause { HasDiskCause (D.fault_count disk.old) (D.fault_count disk.new) result }
-    ensures entry { IsTrue D.tells → IfOk result (λ entry. entry ≡ entry_in ((D.view disk.old).reads (entry_file number)) (content table.now.entries.items) number) }
+    ensures faults { D.fault_count disk.old ≤ D.fault_count disk.new }
+    ensures failed { result ≡ Err Unread.Failed → Rose (D.fault_count disk.old) (D.fault_count disk.new) }
+    ensures created { IfOk result IsCreation }
+    ensures entry { IsTrue D.tells → Reads (entry_in ((D.view disk.old).reads (entry_file number)) (content table.now.entries.items) number) result }
 {
-    let Some(bytes) = log.read(alloc, disk, number)? else {
-        return Ok(None);
-    };
-    match decode(alloc, number, &bytes) {
-        Err(NoMemory) => Err(DiskError::Memory),
-        Ok(None) => Ok(None),
-        Ok(Some(entry)) => Ok(fitting(table, entry)),
+    match log.read(alloc, disk, number) {
+        Err(DiskError::Failed) => Err(Unread::Failed),
+        Err(DiskError::Memory) => Err(Unread::Memory),
+        Ok(None) => Err(Unread::Damaged { at: 0 }),
+        Ok(Some(bytes)) => match decode(alloc, number, &bytes) {
+            Err(unread) => Err(unread),
+            Ok(entry) => fitting(table, entry),
+        },
     }
 }
 
-fn fitting(table: &Table, entry: Entry) -> Option<Entry>
-    ensures { result ≡ fitting (content table.now.entries.items) (Some entry) }
+/// The creation of a repository that isn't there yet.
+fn fitting(table: &Table, entry: Entry) -> Result<Entry, Unread>
+    ensures created { IfOk result IsCreation }
+    ensures read { result ≢ Err Unread.Failed }
+    ensures entry { Reads (fitting (content table.now.entries.items) (Ok entry)) result }
 {
-    if table.fits(&entry) {
-        Some(entry)
-    } else {
-        None
+    match entry.change {
+        Change::Create { .. } => {
+            if table.fits(&entry) {
+                Ok(entry)
+            } else {
+                Err(Unread::Damaged { at: 0 })
+            }
+        }
+        _ => Err(Unread::Damaged { at: 0 }),
     }
 }

@@ -8,11 +8,11 @@ ghost use Rattle.gt_part.specs.Crash.{Holds};
 ghost use Rattle.gt_part.specs.Mounts.{Mounts, HasMountCause};
 ghost use Rattle.gt_part.specs.Shown.{Counts, HasRun, Continues, OneEvent, OneOpening, Records};
 
-use crate::act::attempt;
 use crate::book::Book;
+use crate::create::create;
 use crate::loading::load;
 use gt_disk::Disk;
-use gt_list::Roomy;
+use gt_list::{ListOf, Roomy};
 use gt_log::{Log, MountCause, MountError};
 use gt_model::{Answer, Event, Limits, Refusal, Trail, Turn, Who};
 use gt_name::RepoPath;
@@ -39,7 +39,7 @@ impl<D: Disk + Drop> Model for Partition<D> {
 
     ghost invariant = { λ p. (1 ≤ p.number) × (p.number ≤ 8) };
 
-    ghost view = { λ p. record { number = p.number; disk = p.disk; limits = p.limits; state = state_of p.book; trail = p.trail.0 } };
+    ghost view = { λ p. record { number = p.number; disk = p.disk; limits = p.limits; state = state_of p.book; trail = p.trail.turns.0 } };
 }
 
 impl<D: Disk + Drop> Partition<D> {
@@ -90,7 +90,10 @@ impl<D: Disk + Drop> Partition<D> {
                     table,
                     doubt: None,
                 },
-                trail: Roomy::new(alloc),
+                trail: Trail {
+                    turns: Roomy::new(alloc),
+                    opening: ListOf::new(alloc),
+                },
             }),
             Err(cause) => Err(MountError { cause, disk }),
         }
@@ -132,7 +135,7 @@ impl<D: Disk + Drop> Partition<D> {
 
     /// The records of this opening.
     pub fn trail(&self) -> &Trail
-        ensures { result.now.0 ≡ self.now.trail }
+        ensures { result.now.turns.0 ≡ self.now.trail }
     {
         &self.trail
     }
@@ -152,31 +155,38 @@ impl<D: Disk + Drop> Partition<D> {
         let Ok(path) = path.clone() else {
             return Err(Refusal::Memory);
         };
-        self.perform(alloc, who, Event::Create { path, pool })
+        self.create_at(alloc, who, path, pool)
     }
 
-    /// Does an event, and keeps its record.
-    fn perform(&mut self, alloc: Global, who: Who, event: Event) -> Answer
+    /// Makes a repository, or a pool, and keeps its record.
+    fn create_at(&mut self, alloc: Global, who: Who, path: RepoPath, pool: bool) -> Answer
         ensures limits { self.new.limits ≡ self.old.limits }
-        ensures step { Step self.old.limits self.old.state event result self.new.state }
+        ensures step { Step self.old.limits self.old.state (Event.Create path pool) result self.new.state }
         ensures faults { (first : ℕ) → Counts D.fault_count first self.old → Counts D.fault_count first self.new }
         ensures fault { IsTrue (is_faulty result) → Rose (D.fault_count self.old.disk) (D.fault_count self.new.disk) }
         ensures later { D.fault_count self.old.disk ≤ D.fault_count self.new.disk }
-        ensures trail { Records who event result (D.view self.new.disk).clock self.old self.new }
+        ensures trail { Records who (Event.Create path pool) result (D.view self.new.disk).clock self.old self.new }
         ensures run { IsTrue D.tells → (start : State) (begin : ℕ) (history : List Happening) → HasRun D.view start begin history self.old
-            → Continues D.view start begin history (OneEvent who event result (D.view self.new.disk).clock self.new.state) self.old self.new }
+            → Continues D.view start begin history (OneEvent who (Event.Create path pool) result (D.view self.new.disk).clock self.new.state) self.old self.new }
     {
-        if let Err(_) = self.trail.reserve(1) {
+        if let Err(_) = self.trail.turns.reserve(1) {
             return Err(Refusal::Memory);
         }
-        let answer = attempt(alloc, &self.limits, &mut self.book, &mut self.disk, &event);
+        let ended = create(
+            alloc,
+            &self.limits,
+            &mut self.book,
+            &mut self.disk,
+            &path,
+            pool,
+        );
         let tick = self.disk.tick();
-        self.trail.add(Turn {
+        self.trail.turns.add(Turn {
             who,
-            event,
-            answer,
+            event: Event::Create { path, pool },
+            answer: ended.answer(),
             tick,
         });
-        answer
+        ended.answer()
     }
 }

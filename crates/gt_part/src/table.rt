@@ -4,9 +4,10 @@ ghost use Rattle.std.specs.Ordering.{eq_by_cmp};
 ghost use Rattle.gt_model.specs.Contents.{key_cmp, has_repo, fits};
 ghost use Rattle.gt_model.specs.Machine.{content};
 ghost use Rattle.gt_part.specs.Named.{is_there};
+ghost use Rattle.gt_part.specs.Spelling.{IsCreation};
 
 use gt_list::NoMemory;
-use gt_model::{Change, Entry};
+use gt_model::Entry;
 use gt_name::RepoPath;
 use std::alloc::Global;
 use std::collections::BTreeMap;
@@ -38,13 +39,12 @@ impl Table {
         self.paths.get(path).copied().unwrap_or(false)
     }
 
-    /// Whether an entry fits what the log has made.
+    /// Whether the creation of a repository fits what the log has made.
     pub(crate) fn fits(&self, entry: &Entry) -> bool
+        requires { IsCreation entry.now }
         ensures { result ≡ fits (content self.now.entries.items) entry.now }
     {
-        match entry.change {
-            Change::Create { .. } => !self.has_repo(&entry.path),
-        }
+        !self.has_repo(&entry.path)
     }
 
     /// Takes all the memory of adding an entry.
@@ -56,9 +56,10 @@ impl Table {
         prepare_path(&mut self.paths, &entry.path)
     }
 
-    /// Adds an entry that was prepared.
+    /// Adds the creation of a repository that was prepared.
     pub(crate) fn add(&mut self, entry: Entry)
-        requires { HasRoomFor entry self.old }
+        requires created { IsCreation entry }
+        requires room { HasRoomFor entry self.old }
         ensures { self.new.entries.items ≡ self.old.entries.items ++ entry ∷ [] }
     {
         mark(&mut self.paths, &entry.path);

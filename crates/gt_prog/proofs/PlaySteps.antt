@@ -1,5 +1,5 @@
 -- Lines done one after another, and the whole work.
-use Rattle.std.proofs.Common.{◌≡◌, ⊎_elim, ℕ, ◌+◌, ◌≤◌, ◌<◌, Bool, List, [], ◌∷◌, ◌++◌, map, take, drop, length, get_or, Option, Some, None, Ok, Err, refl, sym, ◌∙◌, ap, subst, arith, append_assoc, take-append-drop, IsTrue}
+use Rattle.std.proofs.Common.{◌≡◌, ⊎_elim, ℕ, ◌+◌, ◌≤◌, ◌<◌, Bool, List, [], ◌∷◌, ◌++◌, map, take, drop, length, get_or, Option, Some, None, Result, Ok, Err, refl, sym, ◌∙◌, ap, subst, arith, append_assoc, take-append-drop, IsTrue}
 use Rattle.std.proofs.lemmas.Bool.{cases_lt}
 use Rattle.std.proofs.lemmas.List.{append-nil, take_more, map-append}
 use Rattle.std.proofs.lemmas.Grind.{flat_map-append}
@@ -18,9 +18,10 @@ use Rattle.gt_part.specs.Mounts.{Mounts}
 use Rattle.gt_part.specs.Shown.{Shown, HasRun, Continues, KeepsPast}
 use Rattle.gt_part.proofs.Histories.{continues, past_same, past_join}
 use Rattle.gt_prog.specs.declared.request.Request.{Request}
-use Rattle.gt_prog.specs.declared.reply.Reply.{Reply}
+use Rattle.gt_model.specs.declared.done.Done.{Done}
+use Rattle.gt_model.specs.declared.refusal.Refusal.{Refusal}
 use Rattle.gt_prog.specs.Lines.{Line, printed, request_of_line, AreLines}
-use Rattle.gt_prog.specs.Printed.{printed_reply}
+use Rattle.gt_script.specs.Printed.{printed as printed_answer}
 use Rattle.gt_prog.specs.Played.{Goes, DidOne, Played, PlayedPart, Went}
 use Rattle.gt_prog.specs.Replay.{Worked, Replayed, ReplayedPart}
 use Rattle.gt_prog.proofs.Telling.{lines_join, lines_none}
@@ -83,19 +84,19 @@ module _ {D : Type 0} (tells : Bool) (view : D → View) where
     next_taken : take (i + 1) requests ≡ take i requests ++ request ∷ []
     next_taken = take_more requests i request lt ∙ ap (λ (r : Request). take i requests ++ r ∷ []) (sym is)
 
-    pub played_more : (p q : Shown D) (reply : Reply) (w u v : Option (List ℕ)) → Played tells view (take i requests) o p w u → DidOne tells view request reply p q → AppendsAll u v (printed_reply reply) → Played tells view (take (i + 1) requests) o q w v
+    pub played_more : (p q : Shown D) (reply : Result Done Refusal) (w u v : Option (List ℕ)) → Played tells view (take i requests) o p w u → DidOne tells view request reply p q → AppendsAll u v (printed_answer reply) → Played tells view (take (i + 1) requests) o q w v
     played_more p q reply w u v done one bytes = record {
       lines = done.lines ++ one.line ∷ [];
       asked = map-append request_of_line done.lines (one.line ∷ []) ∙ ap (λ (l : List Request). l ++ request_of_line one.line ∷ []) done.asked ∙ ap (λ (r : Request). take i requests ++ r ∷ []) one.asked ∙ sym next_taken;
       bytes =
-          let text : flat_map printed (done.lines ++ one.line ∷ []) ≡ flat_map printed done.lines ++ printed_reply reply =
+          let text : flat_map printed (done.lines ++ one.line ∷ []) ≡ flat_map printed done.lines ++ printed_answer reply =
           flat_map-append printed done.lines (one.line ∷ []) ∙ ap (λ (l : List ℕ). flat_map printed done.lines ++ l) (append-nil (printed one.line) ∙ one.prints) in
-          let P : List ℕ → Type 0 = λ l. AppendsAll w v l in subst P (sym text) (appends_then w u v (flat_map printed done.lines) (printed_reply reply) done.bytes bytes);
+          let P : List ℕ → Type 0 = λ l. AppendsAll w v l in subst P (sym text) (appends_then w u v (flat_map printed done.lines) (printed_answer reply) done.bytes bytes);
       goes = goes_then o p q done.lines (one.line ∷ []) done.goes one.goes;
     }
 
     -- it was done, and its answer isn't written whole
-    pub part_written : (p q : Shown D) (reply : Reply) (w u v : Option (List ℕ)) (d : D) → d ≡ q.disk → Played tells view (take i requests) o p w u → DidOne tells view request reply p q → AppendsFront u v (printed_reply reply)
+    pub part_written : (p q : Shown D) (reply : Result Done Refusal) (w u v : Option (List ℕ)) (d : D) → d ≡ q.disk → Played tells view (take i requests) o p w u → DidOne tells view request reply p q → AppendsFront u v (printed_answer reply)
         → PlayedPart tells view requests o (view d) w v
     part_written p q reply w u v d same done one front = record {
       whole = done.lines;
@@ -176,6 +177,7 @@ module _ {D : Type 0} (tells : Bool) (view : D → View) (limits : Limits) (requ
     lines = played.lines;
     asked = played.asked;
     bytes = played.bytes;
+    opens = λ told. ((mounts told).0, (mounts told).1);
     worked = λ told good.
         let m = mounts told in
         let begun = run told good in
@@ -198,6 +200,7 @@ module _ {D : Type 0} (tells : Bool) (view : D → View) (limits : Limits) (requ
     between = played.between;
     bytes = played.bytes;
     front = played.front;
+    opens = λ told. ((mounts told).0, (mounts told).1);
     worked = λ told good.
         let m = mounts told in
         let begun = run told good in

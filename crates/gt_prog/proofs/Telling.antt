@@ -2,8 +2,8 @@
 use Rattle.std.proofs.Common.{◌≡◌, inl, inr, ℕ, Bool, true, false, cond, List, [], ◌∷◌, ◌++◌, map, filter, reverse, Result, refl, sym, ◌∙◌, ap, ap₂}
 use Rattle.std.proofs.lemmas.List.{map-append, reverse-append}
 use Rattle.std.proofs.lemmas.List.Elements.{filter-append}
-use Rattle.gt_model.specs.declared.answer.Done.{Done}
-use Rattle.gt_model.specs.declared.answer.Refusal.{Refusal}
+use Rattle.gt_model.specs.declared.done.Done.{Done}
+use Rattle.gt_model.specs.declared.refusal.Refusal.{Refusal}
 use Rattle.gt_model.specs.declared.event.Event.TheVariants.{Create}
 use Rattle.gt_model.specs.declared.who.Who.{Who}
 use Rattle.gt_model.specs.Machine.{State}

@@ -1,7 +1,6 @@
 pub mod Lines
 pub mod Parses
 pub mod Played
-pub mod Printed
 pub mod Replay
 pub mod Script
 pub mod Statuses

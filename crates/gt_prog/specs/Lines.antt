@@ -1,14 +1,14 @@
 -- The lines of a script with their answers, and the happenings that they tell.
-use Rattle.std.specs.Prelude.{◌≡◌, ℕ, Bool, true, false, not, List, [], ◌∷◌, ◌++◌, map, filter, reverse, codes, Result, Ok, Err}
-use Rattle.std.specs.Fmt.{decimal}
-use Rattle.gt_model.specs.declared.answer.Done.{Done}
-use Rattle.gt_model.specs.declared.answer.Done.TheVariants.{Created}
-use Rattle.gt_model.specs.declared.answer.Refusal.{Refusal}
-use Rattle.gt_model.specs.declared.answer.Refusal.TheVariants.{RepositoryExists, LogFull, DeviceFault, Unsure, Memory}
+use Rattle.std.specs.Prelude.{◌≡◌, ℕ, Bool, true, false, not, List, [], ◌∷◌, map, filter, reverse, Result, Ok, Err}
+use Rattle.gt_model.specs.declared.done.Done.{Done}
+use Rattle.gt_model.specs.declared.done.Done.TheVariants.{Restarted}
+use Rattle.gt_model.specs.declared.refusal.Refusal.{Refusal}
+use Rattle.gt_model.specs.declared.refusal.Refusal.TheVariants.{Memory}
 use Rattle.gt_model.specs.declared.event.Event.{Event}
 use Rattle.gt_model.specs.declared.event.Event.TheVariants.{Create as CreateEvent}
 use Rattle.gt_model.specs.declared.who.Who.{Who}
 use Rattle.gt_model.specs.Histories.{Happening, event, opened}
+use Rattle.gt_script.specs.Printed.{printed as printed_answer}
 use Rattle.gt_prog.specs.declared.request.Form.TheVariants.{Create, Restart}
 use Rattle.gt_prog.specs.declared.request.Request.{Request}
 
@@ -21,24 +21,10 @@ abbrev pub request_of_line : Line → Request
 request_of_line (did who path answer) = record { who = who; form = Create path }
 request_of_line (restarted who) = record { who = who; form = Restart }
 
-abbrev pub printed_done : Done → List ℕ
-printed_done (Created position pool) = codes "ok create " ++ decimal position ++ 10 ∷ []
-
-abbrev pub printed_refusal : Refusal → List ℕ
-printed_refusal RepositoryExists = codes "exists" ++ 10 ∷ []
-printed_refusal LogFull = codes "logfull" ++ 10 ∷ []
-printed_refusal DeviceFault = codes "devicefault" ++ 10 ∷ []
-printed_refusal (Unsure position) = codes "unsure " ++ decimal position ++ 10 ∷ []
-printed_refusal Memory = codes "memory" ++ 10 ∷ []
-
-abbrev pub printed_answer : Result Done Refusal → List ℕ
-printed_answer (Ok done) = printed_done done
-printed_answer (Err refusal) = printed_refusal refusal
-
 -- what is written for a line
 abbrev pub printed : Line → List ℕ
 printed (did who path answer) = printed_answer answer
-printed (restarted who) = codes "ok restart" ++ 10 ∷ []
+printed (restarted who) = printed_answer (Ok Restarted)
 
 -- what a happening or a line tells: an event with its answer, or an opening
 pub data Told : Type 0 where
@@ -54,12 +40,8 @@ told_in (did who path answer) = event_told who (CreateEvent path false) answer
 told_in (restarted who) = opening_told
 
 abbrev pub wants_memory : Result Done Refusal → Bool
-wants_memory (Ok done) = false
-wants_memory (Err RepositoryExists) = false
-wants_memory (Err LogFull) = false
-wants_memory (Err DeviceFault) = false
-wants_memory (Err (Unsure position)) = false
 wants_memory (Err Memory) = true
+wants_memory answer = false
 
 -- whether it isn't a want of memory, of which there may be no record
 abbrev pub is_kept : Told → Bool

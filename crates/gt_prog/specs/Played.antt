@@ -1,31 +1,27 @@
 -- Lines that were done on a partition.
-use Rattle.std.specs.Prelude.{◌≡◌, ℕ, ◌≤◌, Bool, false, IsTrue, List, [], ◌∷◌, ◌++◌, length, map, Option}
+use Rattle.std.specs.Prelude.{◌≡◌, ℕ, ◌≤◌, Bool, IsTrue, List, [], ◌∷◌, ◌++◌, length, map, Option, Result}
 use Rattle.std.specs.List.{flat_map}
 use Rattle.gt_disk.specs.Files.{View}
-use Rattle.gt_model.specs.Machine.{State, is_faulty}
+use Rattle.gt_model.specs.declared.done.Done.{Done}
+use Rattle.gt_model.specs.declared.refusal.Refusal.{Refusal}
+use Rattle.gt_model.specs.Machine.{State}
 use Rattle.gt_model.specs.Histories.{Happening}
 use Rattle.gt_outside.specs.Written.{AppendsAll, AppendsFront}
 use Rattle.gt_part.specs.Crash.{Holds}
 use Rattle.gt_part.specs.Shown.{Shown, HasRun, Continues, KeepsPast}
-use Rattle.gt_prog.specs.declared.reply.Reply.{Reply}
-use Rattle.gt_prog.specs.declared.reply.Reply.TheVariants.{Answer, Restarted}
 use Rattle.gt_prog.specs.declared.request.Request.{Request}
 use Rattle.gt_prog.specs.Lines.{Line, printed, request_of_line, AreLines}
-use Rattle.gt_prog.specs.Printed.{printed_reply}
-
-abbrev pub is_faulty_reply : Reply → Bool
-is_faulty_reply (Answer answer) = is_faulty answer
-is_faulty_reply Restarted = false
+use Rattle.gt_script.specs.Printed.{printed as printed_answer}
 
 -- These lines were done: whatever the history before, they are what came then.
 abbrev pub Goes : {D : Type 0} → Bool → (D → View) → Shown D → Shown D → List Line → Type 0
 Goes tells view old new lines = IsTrue tells → (start : State) (begin : ℕ) (history : List Happening) → HasRun view start begin history old → Continues view start begin history (AreLines lines) old new
 
--- This request was done, and this is its reply.
-pub record DidOne {D : Type 0} (tells : Bool) (view : D → View) (request : Request) (reply : Reply) (old new : Shown D) : Type 0 where
+-- This request was done, and this is its answer.
+pub record DidOne {D : Type 0} (tells : Bool) (view : D → View) (request : Request) (answer : Result Done Refusal) (old new : Shown D) : Type 0 where
   pub line : Line
   pub asked : request_of_line line ≡ request
-  pub prints : printed line ≡ printed_reply reply
+  pub prints : printed line ≡ printed_answer answer
   pub goes : Goes tells view old new (line ∷ [])
 
 -- These requests were done, and their answers and nothing else were written.

@@ -23,11 +23,16 @@ pub record Worked (limits : Limits) (old new : View) (lines : List Line) : Type 
   pub tells : AreLines lines history
   pub holds : Holds limits (sure start) begin history new
 
--- These requests were done, and their answers and nothing else were written. A disk that tells and may be handed in has come to the end of their run, and may be handed in again.
+-- The files recover: no damage is passed over.
+abbrev pub Opens : Limits → View → Type 0
+Opens limits old = (start : List Entry) × (recover limits old.reads ≡ Ok start)
+
+-- These requests were done, and their answers and nothing else were written. A disk that tells recovers as it was handed in. One that may be handed in has come to the end of their run, and may be handed in again.
 pub record Replayed (tells : Bool) (limits : Limits) (requests : List Request) (old new : View) (written out : Option (List ℕ)) : Type 0 where
   pub lines : List Line
   pub asked : map request_of_line lines ≡ requests
   pub bytes : AppendsAll written out (flat_map printed lines)
+  pub opens : IsTrue tells → Opens limits old
   pub worked : IsTrue tells → IsGood limits (now old) → Worked limits old new lines × IsGood limits (now new)
 
 -- Some first requests were done. The answers of all but at most the last were written whole, and of that one's a front.
@@ -40,4 +45,5 @@ pub record ReplayedPart (tells : Bool) (limits : Limits) (requests : List Reques
   pub between : Option (List ℕ)
   pub bytes : AppendsAll written between (flat_map printed whole)
   pub front : AppendsFront between out (flat_map printed part)
+  pub opens : IsTrue tells → Opens limits old
   pub worked : IsTrue tells → IsGood limits (now old) → Worked limits old new (whole ++ part)

@@ -2,7 +2,6 @@
 #![tactic(auto)]
 
 mod playing;
-mod reply;
 mod request;
 mod script;
 mod status;

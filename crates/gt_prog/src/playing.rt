@@ -2,22 +2,23 @@ ghost use Rattle.std.specs.Prelude.{◌≡◌, ◌≢◌, ◌≤◌, ◌∷◌, 
 ghost use Rattle.gt_disk.specs.Files.{Rose};
 ghost use Rattle.gt_disk.specs.declared.file_id.FileId.{FileId};
 ghost use Rattle.gt_log.specs.declared.mount_cause.MountCause.{MountCause};
-ghost use Rattle.gt_model.specs.Machine.{State};
+ghost use Rattle.gt_model.specs.Machine.{State, is_fault, is_faulty};
 ghost use Rattle.gt_model.specs.Histories.{Happening};
 ghost use Rattle.gt_outside.specs.Written.{AppendsAll, AppendsFront};
 ghost use Rattle.gt_part.specs.Crash.{Holds};
 ghost use Rattle.gt_part.specs.Mounts.{HasMountCause};
 ghost use Rattle.gt_part.specs.Recovery.{recover};
 ghost use Rattle.gt_part.specs.Shown.{HasRun, KeepsPast};
-ghost use Rattle.gt_prog.specs.Played.{DidOne, Played, PlayedPart, is_faulty_reply};
-ghost use Rattle.gt_prog.specs.Printed.{printed_reply};
+ghost use Rattle.gt_prog.specs.Played.{DidOne, Played, PlayedPart};
+ghost use Rattle.gt_script.specs.Printed.{printed};
 
-use crate::reply::Reply;
 use crate::request::{Form, Request};
 use gt_disk::{Disk, FileId};
 use gt_log::{MountCause, MountError};
+use gt_model::{Answer, Done, Refusal};
 use gt_outside::{Sink, write_whole};
 use gt_part::Partition;
+use gt_script::print_answer;
 use std::alloc::Global;
 
 /// What ends the work early.
@@ -45,10 +46,10 @@ fn play_one<D: Disk + Drop>(
     alloc: Global,
     partition: Partition<D>,
     request: &Request,
-) -> Result<(Partition<D>, Reply), MountError<D>>
+) -> Result<(Partition<D>, Answer), MountError<D>>
     ensures did { IfOk result (λ r. DidOne D.tells D.view request.now r.1 partition r.0) }
     ensures limits { IfOk result (λ r. r.0.limits ≡ partition.limits) }
-    ensures fault { IfOk result (λ r. IsTrue (is_faulty_reply r.1) → Rose (D.fault_count partition.disk) (D.fault_count r.0.disk)) }
+    ensures fault { IfOk result (λ r. IsTrue (is_faulty r.1) → Rose (D.fault_count partition.disk) (D.fault_count r.0.disk)) }
     ensures later { IfOk result (λ r. D.fault_count partition.disk ≤ D.fault_count r.0.disk) }
     ensures cause { IfErr result (HasMountCause D.fault_count partition.disk) }
     ensures in_vain { IsTrue D.tells → (start : State) (begin : ℕ) (history : List Happening) → HasRun D.view start begin history partition
@@ -60,31 +61,50 @@ fn play_one<D: Disk + Drop>(
         Form::Create { path } => {
             let mut partition = partition;
             let answer = partition.create(alloc, request.who, path, false);
-            Ok((partition, Reply::Answer(answer)))
+            Ok((partition, answer))
         }
         Form::Restart => match partition.restart(alloc) {
-            Ok(partition) => Ok((partition, Reply::Restarted)),
+            Ok(partition) => Ok((partition, Ok(Done::Restarted))),
             Err(error) => Err(error),
         },
     }
 }
 
+/// Whether an answer comes of a failing disk.
+fn is_faulty(answer: &Answer) -> bool
+    ensures { result ≡ is_faulty answer.now }
+{
+    match answer {
+        Ok(_) => false,
+        Err(refusal) => is_fault(refusal),
+    }
+}
+
+fn is_fault(refusal: &Refusal) -> bool
+    ensures { result ≡ is_fault refusal.now }
+{
+    matches!(
+        refusal,
+        Refusal::DeviceFault | Refusal::Unsure { .. } | Refusal::MapUnsure { .. }
+    )
+}
+
 /// Writes what a request is answered. A failing disk isn't answered, and ends the work.
-fn answer<K: Sink>(alloc: Global, sink: &mut K, reply: Reply) -> Result<(), PlayCause>
-    ensures whole { OnOk result (AppendsAll (K.written sink.old) (K.written sink.new) (printed_reply reply)) }
-    ensures front { OnErr result (AppendsFront (K.written sink.old) (K.written sink.new) (printed_reply reply)) }
+fn write_answer<K: Sink>(alloc: Global, sink: &mut K, answer: &Answer) -> Result<(), PlayCause>
+    ensures whole { OnOk result (AppendsAll (K.written sink.old) (K.written sink.new) (printed answer.now)) }
+    ensures front { OnErr result (AppendsFront (K.written sink.old) (K.written sink.new) (printed answer.now)) }
     ensures later { K.faults sink.old ≤ K.faults sink.new }
     ensures write { IsErrOf result PlayCause.Write → Rose (K.faults sink.old) (K.faults sink.new) }
-    ensures device { IsErrOf result PlayCause.Device → IsTrue (is_faulty_reply reply) }
+    ensures device { IsErrOf result PlayCause.Device → IsTrue (is_faulty answer.now) }
     ensures sound { (file : FileId) (at : ℕ) → IsErrOf result (PlayCause.Damaged file at) → ⊥ }
 {
-    if reply.is_faulty() {
+    if is_faulty(answer) {
         return Err(PlayCause::Device);
     }
-    let Ok(text) = reply.text(alloc) else {
+    let Ok(text) = print_answer(alloc, answer) else {
         return Err(PlayCause::Memory);
     };
-    match write_whole(sink, text.as_bytes()) {
+    match write_whole(sink, &text) {
         Ok(()) => Ok(()),
         Err(_) => Err(PlayCause::Write),
     }
@@ -110,9 +130,9 @@ pub(crate) fn play<D: Disk + Drop, K: Sink>(
     for request in requests {
         match play_one(alloc, partition, request) {
             Err(error) => return Err(not_reopened(error)),
-            Ok((next, reply)) => {
+            Ok((next, answer)) => {
                 partition = next;
-                if let Err(cause) = answer(alloc, sink, reply) {
+                if let Err(cause) = write_answer(alloc, sink, &answer) {
                     return Err(PlayError {
                         cause,
                         disk: partition.unmount(),

@@ -1,5 +1,4 @@
-use Rattle.std.proofs.Common.{◌≡◌, ◌++◌, [], ◌∷◌, List, refl, map, inl, inr, None, Some, ◌∙◌, sym, ap}
-use Rattle.gt_model.specs.declared.entry.Entry.{Entry}
+use Rattle.std.proofs.Common.{◌≡◌, refl, map, inl, inr, None, Some}
 use Rattle.gt_part.specs.Book.{state_of}
 use Rattle.gt_part.specs.Spelling.{encode}
 use Rattle.gt_part.proofs.Events.{settled, still_in_doubt, counted}
@@ -14,7 +13,7 @@ returns-in-Ok-true-clause-moves g c told = λ limits.
     let gone : c.take.new.self ≡ None = cc in
     settled limits (state_of c.args.book.now) _ u c.in-Ok-true.field-0 c.settle.new.self.len _ _ here
     (c.in-Ok-true.ensures.any_moment told (map encode log) (encode u) count) (c.in-Ok-true.ensures.after told (map encode log) (encode u) count)
-    (inl (c.in-Ok-true.field-0-test, λ i. record { log = c.add.ensures i; doubt = gone i }))
+    gone (inl (c.in-Ok-true.field-0-test, c.add.ensures))
 
 pub returns-in-Ok-false-clause-moves : goal.returns-in-Ok-false-clause-moves
 returns-in-Ok-false-clause-moves g c told = λ limits.
@@ -25,7 +24,7 @@ returns-in-Ok-false-clause-moves g c told = λ limits.
     let gone : c.take.new.self ≡ None = cc in
     settled limits (state_of c.args.book.now) _ u c.in-Ok-false.field-0 c.settle.new.self.len _ _ here
     (c.in-Ok-false.ensures.any_moment told (map encode log) (encode u) count) (c.in-Ok-false.ensures.after told (map encode log) (encode u) count)
-    (inr (c.in-Ok-false.field-0-test, λ i. record { log = log; doubt = gone i }))
+    gone (inr (c.in-Ok-false.field-0-test, refl))
 
 pub returns-in-Err-clause-moves : goal.returns-in-Err-clause-moves
 returns-in-Err-clause-moves g c told = λ limits.
@@ -33,5 +32,5 @@ returns-in-Err-clause-moves g c told = λ limits.
     let u = c.in-Some.entry in
     let count = counted limits c.args.book.now.log.len log c.args.book.now.counts in
     let here : c.args.book.now.doubt ≡ Some u = cc in
-    still_in_doubt limits (state_of c.args.book.now) _ u _ _ here (λ i. record { log = log; doubt = sym here i })
+    still_in_doubt limits (state_of c.args.book.now) _ u _ _ here refl refl
     (c.in-Err.ensures.any_moment told (map encode log) (encode u) count) (c.in-Err.ensures.after told (map encode log) (encode u) count)

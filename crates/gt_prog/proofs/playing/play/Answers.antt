@@ -20,16 +20,16 @@ returns-in-Err-clause-damaged g c file at is told =
     damage_kept g.D.Disk.view c.args.partition c.loop-request.partition c.not_reopened.result.disk c.in-Err.error.disk file at c.loop-request.invariant.limits c.not_reopened.ensures.disk
     (c.in-Err.ensures.damaged file at (c.not_reopened.ensures.damaged file at is) told)
 
-pub returns-in-Err-answer-clause-part : goal.returns-in-Err-answer-clause-part
-returns-in-Err-answer-clause-part g c =
-    part_written g.D.Disk.tells g.D.Disk.view c.args.partition c.args.requests.now c.loop-request.request-index c.request-item.result c.loop-request-test.true c.request-item.is c.loop-request.partition c.in-Ok.next c.in-Ok.reply _ _ _ c.unmount.result
-    c.unmount.ensures c.loop-request.invariant.played c.in-Ok.ensures.did c.in-Err-answer.ensures.front
+pub returns-in-Err-write_answer-clause-part : goal.returns-in-Err-write_answer-clause-part
+returns-in-Err-write_answer-clause-part g c =
+    part_written g.D.Disk.tells g.D.Disk.view c.args.partition c.args.requests.now c.loop-request.request-index c.request-item.result c.loop-request-test.true c.request-item.is c.loop-request.partition c.in-Ok.next c.in-Ok.answer _ _ _ c.unmount.result
+    c.unmount.ensures c.loop-request.invariant.played c.in-Ok.ensures.did c.in-Err-write_answer.ensures.front
 
 pub loop-request-preserved : goal.loop-request-preserved
 loop-request-preserved g c = record {
-  played = played_more g.D.Disk.tells g.D.Disk.view c.args.partition c.args.requests.now c.loop-request.request-index c.request-item.result c.loop-request-test.true c.request-item.is c.loop-request.partition c.in-Ok.next c.in-Ok.reply _ _ _
+  played = played_more g.D.Disk.tells g.D.Disk.view c.args.partition c.args.requests.now c.loop-request.request-index c.request-item.result c.loop-request-test.true c.request-item.is c.loop-request.partition c.in-Ok.next c.in-Ok.answer _ _ _
       c.loop-request.invariant.played c.in-Ok.ensures.did c.in_default.ensures.whole;
-  later = omega (arith, c.loop-request.invariant.later, c.answer.ensures.later);
+  later = omega (arith, c.loop-request.invariant.later, c.write_answer.ensures.later);
   limits = c.in-Ok.ensures.limits ∙ c.loop-request.invariant.limits;
   counts = omega (arith, c.loop-request.invariant.counts, c.in-Ok.ensures.later);
 }

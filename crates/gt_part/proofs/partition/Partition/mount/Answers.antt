@@ -1,5 +1,5 @@
 use Rattle.std.proofs.Common.{◌≡◌, ◌∙◌, ap, sym, [], refl, Ok}
-use Rattle.gt_disk.specs.Files.{Files, View}
+use Rattle.gt_disk.specs.Files.{Files}
 use Rattle.gt_disk.proofs.Steps.{narrows_quiet}
 use Rattle.gt_log.specs.Log.{gate_file, content_length}
 use Rattle.gt_model.specs.Machine.{sure}
@@ -23,4 +23,4 @@ returns-in-Ok-load-clause-run g c told good =
     let len = c.in-Ok.ensures.len told ∙ sym (ap (λ (r : Files). content_length (r gate_file)) reads) in
     let is : recover c.args.limits v.reads ≡ Ok log = ap (λ (r : Files). recover c.args.limits r) (sym reads) ∙ c.in-Ok-load.ensures.loads told len in
     let stored = opened_stored c.args.limits v w x log (g.met.D.Disk.shows c.args.disk told) good is (λ entries recovers keeps. (c.in-Ok.ensures.stands told entries recovers keeps).1) (c.load.ensures.quiet told) in
-    trail_same c.args.limits (sure log) x.clock [] x (sure log) (sure log) [] c.new.result.0 refl c.new.ensures (first_opened c.args.limits x (sure log) stored)
+    trail_same c.args.limits (sure log) x.clock [] x (sure log) (sure log) [] c.new.result.0 refl c.new.ensures (first_opened c.args.limits x log stored)

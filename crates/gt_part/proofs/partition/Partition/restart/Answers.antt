@@ -1,5 +1,4 @@
 use Rattle.std.proofs.Common.{ap}
-use Rattle.gt_model.specs.declared.limits.Limits.{Limits}
 use Rattle.gt_part.specs.Shown.{Shown}
 use Rattle.gt_part.proofs.Histories.{restarted_by, reopened_in_vain}
 use Rattle.gt_part.proofs.partition.Partition.restart.Goals as goal

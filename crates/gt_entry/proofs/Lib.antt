@@ -1,0 +1,9 @@
+pub mod SetLemmas
+pub mod PutLemmas
+pub mod Allowed
+pub mod FieldLemmas
+pub mod ItemLemmas
+pub mod ChangeLemmas
+pub mod OrderLemmas
+pub mod FitLemmas
+pub mod WholeLemmas

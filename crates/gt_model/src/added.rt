@@ -1,0 +1,12 @@
+use gt_list::ListOf;
+use gt_name::Name;
+use gt_object::Record;
+
+/// A record under its name.
+#[derive(Clone, Debug, Drop, PartialEq)]
+pub struct Added {
+    pub name: Name,
+    pub whole: Record,
+}
+
+pub type AddedRecords = ListOf<Added>;
