@@ -1,0 +1,9 @@
+pub mod Owning
+pub mod InOrder
+pub mod Adding
+pub mod Prefixes
+pub mod LeastLaws
+pub mod LaidLaws
+pub mod SortedLaws
+pub mod ClashLaws
+pub mod Outcome
