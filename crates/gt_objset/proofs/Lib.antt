@@ -1,0 +1,12 @@
+pub mod SlotLaws
+pub mod RepoLaws
+pub mod TrackLaws
+pub mod StepLaws
+pub mod TableLaws
+pub mod TakenLaws
+pub mod ContentLaws
+pub mod AgreeLaws
+pub mod ListLaws
+pub mod ListedLaws
+pub mod SeedLaws
+pub mod MergeLaws

@@ -1,0 +1,6 @@
+pub mod Places
+pub mod Track
+pub mod Table
+pub mod Agree
+pub mod Lists
+pub mod Seeds

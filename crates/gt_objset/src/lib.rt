@@ -1,0 +1,22 @@
+//! The places of objects at each position of a log, found in a logarithm.
+#![tactic(auto)]
+
+mod head;
+mod laws;
+mod listing;
+mod merging;
+mod objset;
+mod place;
+mod plan;
+mod repo;
+mod repos;
+mod seeding;
+mod slots;
+mod spelling;
+
+pub use laws::{own_objects_have_places, seeded_tables_agree, tables_follow_their_logs};
+pub use objset::ObjSet;
+pub use place::Place;
+
+#[cfg(test)]
+mod tests;

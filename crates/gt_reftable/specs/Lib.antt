@@ -1,0 +1,3 @@
+pub mod Tracks
+pub mod Table
+pub mod Agree

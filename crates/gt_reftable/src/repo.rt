@@ -1,0 +1,157 @@
+ghost use Rattle.std.specs.Prelude.{◌≡◌, ℕ, IsTrue, IfOk, OnOk, OnErr, [], not, ◌&&◌, find};
+ghost use Rattle.std.specs.FinMap as map;
+ghost use Rattle.std.specs.List.{list_any};
+ghost use Rattle.std.specs.Option.{option_copied};
+ghost use Rattle.gt_model.specs.Verdicts.{clashes, same_name};
+ghost use Rattle.gt_model.specs.Machine.{references};
+ghost use Rattle.gt_versions.specs.Versions.{IsUpTo, ready};
+ghost use Rattle.gt_reftable.specs.Tracks.{value_in, refs_of, IsTrackUpTo, given, step_updates, HasPlace, HasRoom, IsRoomier, Moves, PutsLife, PutsUpdate, Seeds};
+
+use gt_list::NoMemory;
+use gt_model::{RefList, RefUpdate};
+use gt_name::{Name, Names2, RefName};
+use gt_slots::Slots;
+use gt_versions::Versions;
+use std::alloc::Global;
+use std::marker::Model;
+
+/// When a repository was made or deleted, and its references.
+#[derive(Debug, Drop)]
+pub struct Repo {
+    lives: Versions<bool>,
+    refs: Slots,
+}
+
+impl Model for Repo {
+    ghost use Rattle.gt_reftable.specs.Tracks.{Track, track_code};
+
+    ghost Value = { Track };
+
+    ghost coded = { track_code };
+
+    ghost view = { λ r. record { lives = r.lives; refs = r.refs } };
+}
+
+impl Repo {
+    /// A repository that was never made or deleted, without references.
+    pub fn new(alloc: Global) -> Repo
+        ensures lives { result.lives.0 ≡ [] }
+        ensures refs { result.refs ≡ map.empty }
+    {
+        Repo {
+            lives: Versions::new(alloc),
+            refs: Slots::new(alloc),
+        }
+    }
+
+    /// What a reference names at a position.
+    pub fn value(&self, position: u64, name: &RefName) -> Option<Name>
+        ensures { result ≡ value_in self.now position name.now }
+    {
+        self.refs.value(self.lives.start(position), position, name)
+    }
+
+    /// The references at a position whose names begin so, ascending.
+    pub fn list(&self, alloc: Global, position: u64, prefix: &[u8]) -> Result<RefList, NoMemory>
+        ensures { IfOk result (λ l. l ≡ references (refs_of self.now position) prefix.now) }
+    {
+        self.refs
+            .list(alloc, self.lives.start(position), position, prefix)
+    }
+
+    /// The least reference at a position that stands in the folder of `name`, or in whose folder `name` stands, and that
+    /// isn't gone.
+    pub fn clash(&self, position: u64, name: &RefName, gone: &Names2) -> Option<&RefName>
+        ensures { option_copied result ≡ find (λ other. clashes name.now other && not (list_any (same_name other) gone.now)) (map.keys (refs_of self.now position)) }
+    {
+        self.refs
+            .clash(self.lives.start(position), position, name, gone)
+    }
+
+    /// It is made or deleted at a position, in room that was taken before.
+    pub fn put_life(&mut self, position: u64, there: bool)
+        requires after { IsUpTo position self.old.lives.0 }
+        requires room { IsTrue (ready position self.old.lives) }
+        ensures { PutsLife position there self.old self.new }
+    {
+        self.lives.put(position, there);
+    }
+
+    /// Makes updates from a position on, in room that was taken before.
+    pub fn write(&mut self, position: u64, updates: &[RefUpdate])
+        requires after { IsTrackUpTo position self.old }
+        requires room { HasRoom position self.old updates.now }
+        ensures { Moves position (step_updates updates.now) self.old self.new }
+    {
+        for update in updates {
+            self.put_update(position, update);
+        }
+    }
+
+    /// Takes room for being made or deleted.
+    pub fn prepare_life(&mut self) -> Result<(), NoMemory>
+        ensures same { IsRoomier self.old self.new }
+        ensures ok { OnOk result ((q : ℕ) → IsTrue (ready q self.new.lives)) }
+    {
+        self.lives.reserve()
+    }
+
+    /// Takes room for updates.
+    pub fn prepare(&mut self, alloc: Global, updates: &[RefUpdate]) -> Result<(), NoMemory>
+        ensures same { IsRoomier self.old self.new }
+        ensures ok { OnOk result ((q : ℕ) → HasRoom q self.new updates.now) }
+    {
+        for update in updates {
+            if let Err(error) = self.prepare_update(alloc, update) {
+                return Err(error);
+            }
+        }
+        Ok(())
+    }
+
+    /// A reference has this value at the newest position, in place of the one that it has there.
+    pub fn seed(
+        &mut self,
+        alloc: Global,
+        position: u64,
+        name: &RefName,
+        value: Name,
+    ) -> Result<(), NoMemory>
+        requires { IsTrackUpTo position self.old }
+        ensures ok { OnOk result (Seeds position name.now value self.old self.new) }
+        ensures err { OnErr result (IsRoomier self.old self.new) }
+    {
+        if let Err(error) = self.refs.prepare(alloc, name) {
+            return Err(error);
+        }
+        self.refs.put(position, name, Some(value));
+        Ok(())
+    }
+
+    fn put_update(&mut self, position: u64, update: &RefUpdate)
+        requires after { IsTrackUpTo position self.old }
+        requires room { HasPlace position self.old update.now.name update.now.new }
+        ensures { PutsUpdate position update.now self.old self.new }
+    {
+        if let Some(new) = update.new {
+            self.refs.put(position, &update.name, given(new));
+        }
+    }
+
+    fn prepare_update(&mut self, alloc: Global, update: &RefUpdate) -> Result<(), NoMemory>
+        ensures same { IsRoomier self.old self.new }
+        ensures ok { OnOk result ((q : ℕ) → HasPlace q self.new update.now.name update.now.new) }
+    {
+        if update.new.is_none() {
+            return Ok(());
+        }
+        self.refs.prepare(alloc, &update.name)
+    }
+}
+
+/// What a reference names once it has this value: nothing where that is zero.
+fn given(new: Name) -> Option<Name>
+    ensures { result ≡ given new }
+{
+    if new == Name::ZERO { None } else { Some(new) }
+}

@@ -1,0 +1,143 @@
+ghost use Rattle.std.specs.Prelude.{◌≡◌, ◌+◌, ◌≤◌, OnOk, OnErr, IfOk, not, ◌&&◌, find};
+ghost use Rattle.std.specs.FinMap as map;
+ghost use Rattle.std.specs.List.{list_any};
+ghost use Rattle.std.specs.Option.{option_copied};
+ghost use Rattle.gt_model.specs.Verdicts.{clashes, same_name};
+ghost use Rattle.gt_model.specs.Machine.{references};
+ghost use Rattle.gt_reftable.specs.Table.{refs_at, Adds, Seeds, IsEmpty, IsSameTable, IsPrepared};
+
+use crate::adding::add_next;
+use crate::preparing::prepare_entry;
+use crate::repo::Repo;
+use crate::seeding::seed_ref;
+use gt_list::NoMemory;
+use gt_model::{Entry, RefList};
+use gt_name::{Name, Names2, RefName, RepoPath};
+use std::alloc::Global;
+use std::collections::BTreeMap;
+use std::marker::Model;
+
+/// The references of every repository at each position from the floor to the front, while entries are added.
+#[derive(Debug, Drop)]
+pub struct RefTable {
+    floor: u64,
+    front: u64,
+    repos: BTreeMap<RepoPath, Repo>,
+}
+
+impl Model for RefTable {
+    ghost use Rattle.std.specs.FinMap as map;
+    ghost use Rattle.gt_reftable.specs.Table.{Table, table_code, AllUpTo};
+
+    ghost Value = { Table };
+
+    ghost coded = { table_code };
+
+    ghost invariant = { λ t. AllUpTo t.front (map.from_entries t.repos.entries) };
+
+    ghost view = { λ t. record { floor = t.floor; front = t.front; repos = map.from_entries t.repos.entries } };
+}
+
+impl RefTable {
+    /// An empty content at a position, which is the floor and the front.
+    pub fn start(alloc: Global, floor: u64) -> Result<RefTable, NoMemory>
+        ensures { IfOk result (IsEmpty floor) }
+    {
+        Ok(RefTable {
+            floor,
+            front: floor,
+            repos: BTreeMap::new(alloc),
+        })
+    }
+
+    /// A reference is in the content at the floor. It takes the place of an earlier value there.
+    pub fn seed(
+        &mut self,
+        alloc: Global,
+        path: &RepoPath,
+        name: &RefName,
+        value: Name,
+    ) -> Result<(), NoMemory>
+        requires start { self.old.front ≡ self.old.floor }
+        ensures ok { OnOk result (Seeds path.now name.now value self.old self.new) }
+        ensures err { OnErr result (IsSameTable self.old self.new) }
+    {
+        seed_ref(&mut self.repos, alloc, self.front, path, name, value)
+    }
+
+    /// The first position of which it knows.
+    pub fn floor(&self) -> u64
+        ensures { result ≡ self.now.floor }
+    {
+        self.floor
+    }
+
+    /// The position of the last entry, and the floor where there is none.
+    pub fn front(&self) -> u64
+        ensures { result ≡ self.now.front }
+    {
+        self.front
+    }
+
+    /// What a reference names at a position. None where it isn't there, or its repository isn't.
+    pub fn get(&self, at: u64, path: &RepoPath, name: &RefName) -> Option<Name>
+        requires from { self.now.floor ≤ at }
+        requires to { at ≤ self.now.front }
+        ensures { result ≡ map.get (refs_at self.now at path.now) name.now }
+    {
+        match self.repos.get(path) {
+            None => None,
+            Some(repo) => repo.value(at, name),
+        }
+    }
+
+    /// The references of a repository at a position whose names begin so, ascending by name. None where the repository
+    /// isn't there.
+    pub fn list(
+        &self,
+        alloc: Global,
+        at: u64,
+        path: &RepoPath,
+        prefix: &[u8],
+    ) -> Result<RefList, NoMemory>
+        requires from { self.now.floor ≤ at }
+        requires to { at ≤ self.now.front }
+        ensures { IfOk result (λ l. l ≡ references (refs_at self.now at path.now) prefix.now) }
+    {
+        match self.repos.get(path) {
+            None => Ok(RefList::new(alloc)),
+            Some(repo) => repo.list(alloc, at, prefix),
+        }
+    }
+
+    /// The least reference of a repository at a position that stands in the folder of `name`, or in whose folder `name`
+    /// stands, and that isn't gone. It takes no memory.
+    pub fn clash(&self, at: u64, path: &RepoPath, name: &RefName, gone: &Names2) -> Option<&RefName>
+        requires from { self.now.floor ≤ at }
+        requires to { at ≤ self.now.front }
+        ensures { option_copied result ≡ find (λ other. clashes name.now other && not (list_any (same_name other) gone.now)) (map.keys (refs_at self.now at path.now)) }
+    {
+        match self.repos.get(path) {
+            None => None,
+            Some(repo) => repo.clash(at, name, gone),
+        }
+    }
+
+    /// Takes all the memory of adding an entry. Nothing changes at any position.
+    pub fn prepare(&mut self, alloc: Global, entry: &Entry) -> Result<(), NoMemory>
+        ensures same { IsSameTable self.old self.new }
+        ensures ok { OnOk result (IsPrepared self.new entry.now) }
+    {
+        prepare_entry(&mut self.repos, alloc, self.front, entry)
+    }
+
+    /// Adds an entry that was prepared. It takes no memory.
+    pub fn with(&mut self, entry: &Entry)
+        requires next { entry.now.position ≡ self.old.front + 1 }
+        requires prepared { IsPrepared self.old entry.now }
+        ensures { Adds entry.now self.old self.new }
+    {
+        add_next(&mut self.repos, self.front, entry.position, entry);
+        self.front = entry.position;
+    }
+}

@@ -1,0 +1,12 @@
+pub mod ProbeLaws
+pub mod SortLaws
+pub mod SearchLaws
+pub mod PlaceLaws
+pub mod LookLaws
+pub mod EditLaws
+pub mod EntryLaws
+pub mod SlotLaws
+pub mod ListLaws
+pub mod FolderLaws
+pub mod SeekLaws
+pub mod ClashLaws

@@ -1,0 +1,20 @@
+use Rattle.std.proofs.Common.{◌≡◌, ◌<◌, ◌-◌, suc, length, ap, sym, ◌∙◌, arith}
+use Rattle.gt_slots.proofs.PlaceLaws.{page_at}
+use Rattle.gt_slots.proofs.EditLaws.{well_end, pushed_end}
+use Rattle.gt_slots.proofs.inserting.push_in_last.Goals as goal
+
+pub returns-clause-well : goal.returns-clause-well
+returns-clause-well c =
+    let n : length c.as_slice.result.now ≡ length c.args.pages.now.items = ap length c.as_slice.ensures.value in
+    let some = c.requires.some in
+    let l : length c.as_slice.result.now - 1 < length c.args.pages.now.items = omega (arith, n, some) in
+    let m : suc (length c.as_slice.result.now - 1) ≡ length c.args.pages.now.items = omega (arith, n, some) in
+    well_end c.insert.result c.args.pages.now.items (length c.as_slice.result.now - 1) c.len-end.result c.args.slot.0 c.args.slot.1 c.in-Some.last.now c.insert.new.self (page_at c.args.pages.now.items (length c.as_slice.result.now - 1) c.in-Some.last.now l ∙ sym c.in-Some.ensures.value) m c.len-end.ensures c.requires.well c.requires.last c.insert.ensures.ok c.insert.ensures.err
+
+pub returns-clause-ok : goal.returns-clause-ok
+returns-clause-ok c =
+    let n : length c.as_slice.result.now ≡ length c.args.pages.now.items = ap length c.as_slice.ensures.value in
+    let some = c.requires.some in
+    let l : length c.as_slice.result.now - 1 < length c.args.pages.now.items = omega (arith, n, some) in
+    let m : suc (length c.as_slice.result.now - 1) ≡ length c.args.pages.now.items = omega (arith, n, some) in
+    pushed_end c.insert.result c.args.pages.now.items (length c.as_slice.result.now - 1) c.len-end.result c.args.slot c.in-Some.last.now c.insert.new.self (page_at c.args.pages.now.items (length c.as_slice.result.now - 1) c.in-Some.last.now l ∙ sym c.in-Some.ensures.value) m c.len-end.ensures c.insert.ensures.ok

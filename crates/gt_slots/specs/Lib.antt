@@ -1,0 +1,5 @@
+pub mod Slots
+pub mod Pages
+pub mod Present
+pub mod Listing
+pub mod Clashing

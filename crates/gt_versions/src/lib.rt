@@ -1,0 +1,12 @@
+//! The values of one key, each from a position on, found in a logarithm: what both tables of a partition are made of.
+#![tactic(auto)]
+
+mod laws;
+mod reading;
+mod versions;
+
+pub use laws::later_versions_leave_earlier_positions;
+pub use versions::Versions;
+
+#[cfg(test)]
+mod tests;
