@@ -65,11 +65,11 @@ fn failing(alloc: Global, call: u64) -> Result<MemDisk, Fail> {
     Ok(disk)
 }
 
-fn is_damaged(rt: &impl Abort, alloc: Global, disk: MemDisk) {
+fn is_damaged(rt: &impl Abort, alloc: Global, disk: MemDisk, at: u64) {
     match Partition::mount(alloc, 1, disk, Limits::usual()) {
         Ok(_) => assert!(rt; false, "mounted"),
         Err(MountError { cause, disk: _ }) => {
-            assert_eq!(rt; cause, MountCause::Damaged { file: ENTRY, at: 0 });
+            assert_eq!(rt; cause, MountCause::Damaged { file: ENTRY, at });
         }
     }
 }
@@ -130,8 +130,8 @@ fn settles_what_is_in_doubt(rt: HostRuntime) -> Result<(), Fail> {
 #[test]
 fn names_damage(rt: HostRuntime) -> Result<(), Fail> {
     let alloc = rt.alloc();
-    is_damaged(&rt, alloc, of_one_entry(alloc)?);
+    is_damaged(&rt, alloc, of_one_entry(alloc)?, 0);
     let cut = with_entry(of_one_entry(alloc)?, b"GTE1")?;
-    is_damaged(&rt, alloc, cut);
+    is_damaged(&rt, alloc, cut, 4);
     Ok(())
 }
