@@ -1,0 +1,5 @@
+pub mod Lengths
+pub mod Cases
+pub mod Records
+pub mod Changes
+pub mod Logs

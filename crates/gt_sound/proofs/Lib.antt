@@ -1,0 +1,4 @@
+pub mod Alike
+pub mod Repositories
+pub mod Logs
+pub mod Steps

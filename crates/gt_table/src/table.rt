@@ -1,0 +1,160 @@
+ghost use Rattle.std.specs.Prelude.{◌≡◌, ◌≤◌, ◌+◌, ◌++◌, ◌∷◌, [], length, is_some, IfOk, OnOk, IsTrue};
+ghost use Rattle.std.specs.Option.{option_copied};
+ghost use Rattle.gt_model.specs.Contents.{value, is_visible, has_repo, least_member, fits};
+ghost use Rattle.gt_model.specs.Machine.{content, references};
+ghost use Rattle.gt_model.specs.Verdicts.{clash, refs_in};
+ghost use Rattle.gt_table.specs.Table.{HasRoomFor, content_at, place_at};
+
+use gt_list::{NoMemory, Roomy};
+use gt_model::{Entry, RefList};
+use gt_name::{Name, Names2, RefName, RepoPath};
+use gt_objset::{ObjSet, Place, tables_follow_their_logs};
+use gt_reftable::{RefTable, empty_tables_agree, references_are_values, tables_follow_their_log};
+use std::alloc::Global;
+use std::marker::Model;
+
+/// The entries of a log from position 1 on, and what they have made at each position. Each look-up takes a logarithm of
+/// what the repository has.
+#[derive(Drop)]
+pub struct Table {
+    entries: Roomy<Entry>,
+    refs: RefTable,
+    objects: ObjSet,
+}
+
+impl Model for Table {
+    ghost use Rattle.gt_table.specs.Table.{Tables, tables_code, Follow};
+
+    ghost Value = { Tables };
+
+    ghost coded = { tables_code };
+
+    ghost view = { λ t. record { log = t.entries.0; room = t.entries.1; refs = t.refs; objects = t.objects } };
+
+    ghost invariant = { λ t. Follow (record { log = t.entries.0; room = t.entries.1; refs = t.refs; objects = t.objects }) };
+}
+
+impl Table {
+    /// No entry.
+    pub fn new(alloc: Global) -> Result<Table, NoMemory>
+        ensures { IfOk result (λ t. t.log ≡ []) }
+    {
+        // a law, which does nothing, as those in `value_at` and `add`
+        empty_tables_agree();
+        let refs = match RefTable::start(alloc, 0) {
+            Ok(refs) => refs,
+            Err(error) => return Err(error),
+        };
+        let objects = match ObjSet::start(alloc, 0) {
+            Ok(objects) => objects,
+            Err(error) => return Err(error),
+        };
+        Ok(Table {
+            entries: Roomy::new(alloc),
+            refs,
+            objects,
+        })
+    }
+
+    /// The entries in order.
+    pub fn entries(&self) -> &[Entry]
+        ensures { result.now ≡ self.now.log }
+    {
+        self.entries.as_slice()
+    }
+
+    /// The position of the last entry, 0 where there is none.
+    pub fn front(&self) -> u64
+        ensures { result ≡ length self.now.log }
+    {
+        self.entries.as_slice().len() as u64
+    }
+
+    /// Whether the content at the front has a repository.
+    pub fn has_repo(&self, path: &RepoPath) -> bool
+        ensures { result ≡ has_repo (content self.now.log) path.now }
+    {
+        self.objects.has_repo(self.front(), path)
+    }
+
+    /// The least repository that has this pool at the front.
+    pub fn least_member(&self, path: &RepoPath) -> Option<&RepoPath>
+        ensures { option_copied result ≡ least_member (content self.now.log) path.now }
+    {
+        self.objects.least_member(self.front(), path)
+    }
+
+    /// What a reference names at a position. None where it isn't there, or its repository isn't.
+    pub fn value_at(&self, at: u64, path: &RepoPath, name: &RefName) -> Option<Name>
+        requires { at ≤ length self.now.log }
+        ensures { result ≡ value (content_at self.now.log at) path.now name.now }
+    {
+        references_are_values();
+        self.refs.get(at, path, name)
+    }
+
+    /// The references of a repository at a position whose names begin so, ascending by name.
+    pub fn list_at(
+        &self,
+        alloc: Global,
+        at: u64,
+        path: &RepoPath,
+        prefix: &[u8],
+    ) -> Result<RefList, NoMemory>
+        requires { at ≤ length self.now.log }
+        ensures { IfOk result (λ list. list ≡ references (refs_in (content_at self.now.log at) path.now) prefix.now) }
+    {
+        self.refs.list(alloc, at, path, prefix)
+    }
+
+    /// Where the record stands that is seen under a name in a repository at a position: the own one, else its pool's. None
+    /// where no such object is visible.
+    pub fn place_at(&self, at: u64, path: &RepoPath, name: &Name) -> Option<Place>
+        requires { at ≤ length self.now.log }
+        ensures visible { is_some result ≡ is_visible (content_at self.now.log at) path.now name.now }
+        ensures place { result ≡ place_at self.now.log at path.now name.now }
+    {
+        self.objects.place(at, path, name)
+    }
+
+    /// The least reference of a repository at the front that stands in the folder of `name`, or in whose folder `name` stands,
+    /// and that isn't gone. It takes no memory.
+    pub(crate) fn clash_at_front(
+        &self,
+        path: &RepoPath,
+        name: &RefName,
+        gone: &Names2,
+    ) -> Option<&RefName>
+        ensures { option_copied result ≡ clash (content self.now.log) path.now name.now gone.now }
+    {
+        self.refs.clash(self.front(), path, name, gone)
+    }
+
+    /// Takes all the memory of adding an entry. Nothing changes at any position.
+    pub fn prepare(&mut self, alloc: Global, entry: &Entry) -> Result<(), NoMemory>
+        ensures same { self.new.log ≡ self.old.log }
+        ensures ok { OnOk result (HasRoomFor entry.now self.new) }
+    {
+        if let Err(error) = self.entries.reserve(1) {
+            return Err(error);
+        }
+        if let Err(error) = self.refs.prepare(alloc, entry) {
+            return Err(error);
+        }
+        self.objects.prepare(alloc, entry)
+    }
+
+    /// Adds an entry that was prepared last and fits the content at the front. It takes no memory.
+    pub fn add(&mut self, entry: Entry)
+        requires next { entry.position ≡ length self.old.log + 1 }
+        requires fit { IsTrue (fits (content self.old.log) entry) }
+        requires room { HasRoomFor entry self.old }
+        ensures { self.new.log ≡ self.old.log ++ entry ∷ [] }
+    {
+        tables_follow_their_log();
+        tables_follow_their_logs();
+        self.refs.with(&entry);
+        self.objects.with(&entry);
+        self.entries.add(entry);
+    }
+}
