@@ -208,6 +208,32 @@ fn bytes_have_a_limit(rt: HostRuntime) -> Result<(), Fail> {
     Ok(())
 }
 
+// The answer for a blob of one byte again and again, with 16,777,216 bytes in its record.
+fn takes_largest(alloc: Global, stage: &mut Stage, byte: u8) -> Result<bool, Fail> {
+    let content = vec![in alloc; byte; 16_777_202]?;
+    takes(alloc, stage, content.as_slice())
+}
+
+fn is_largest_at(stage: &Stage, i: usize) -> bool {
+    match stage.record_at(i) {
+        Some((_, whole)) => whole.bytes().len() == 16_777_216,
+        None => false,
+    }
+}
+
+// A third one is over the limit, and one that is staged is taken again.
+#[test]
+fn two_largest_records_fill_a_new_stage(rt: HostRuntime) -> Result<(), Fail> {
+    let mut stage = Stage::new(rt.alloc());
+    for (byte, wanted) in [(1, true), (2, true), (3, false), (2, true)] {
+        assert_eq!(rt; takes_largest(rt.alloc(), &mut stage, byte)?, wanted);
+    }
+    assert!(rt; is_largest_at(&stage, 0));
+    assert!(rt; is_largest_at(&stage, 1));
+    assert_eq!(rt; stage.records_len(), 2);
+    Ok(())
+}
+
 fn stage_numbered(
     alloc: Global,
     stage: &mut Stage,
