@@ -10,3 +10,4 @@ pub mod ListLaws
 pub mod ListedLaws
 pub mod SeedLaws
 pub mod MergeLaws
+pub mod MemberLaws

@@ -12,7 +12,7 @@ use Rattle.std.specs.FinMap as map
 use Rattle.std.specs.FinMap.{FinMap, find, is_sorted, get-entries, entries_sorted, from_entries, contains_key-keys}
 use Rattle.std.specs.FinMap.Entries.{below_all, same_entries, is_sorted-where_key, find-where_key}
 use Rattle.gt_model.specs.Contents.{key_cmp}
-use Rattle.gt_versions.proofs.Keys.{key_cmp-IsAntisymmetric, flip, entries_of}
+use Rattle.gt_versions.proofs.Keys.{key_cmp-IsAntisymmetric, flip, entries_of, at_key, get_key}
 
 -- the keys alone
 abbrev bare : {X : Type 0} → List (List ℕ × X) → List (List ℕ × ℕ)
@@ -98,6 +98,22 @@ listed_both {X} {Y} m p n r h =
     ∙ same_lists (filter (λ (e : List ℕ × X). p e.0) (map.entries m)) (filter (λ (e : List ℕ × Y). r e.0) (map.entries n)) (is_sorted-where_key key_cmp p (map.entries m) (entries_sorted m)) (is_sorted-where_key key_cmp r (map.entries n) (entries_sorted n))
     (λ q. ap is_some (found_where m p q) ∙ h q ∙ sym (ap is_some (found_where n r q)))
     ∙ keys_where r (map.entries n)
+
+-- names that ascend and a tree's keys: those that pass a test are the same, where those of them in one are in the other
+pub same_where : {X : Type 0} (ks : List (List ℕ)) (es : List (List ℕ × X)) (p : List ℕ → Bool) → IsStrictlySortedBy key_cmp ks → IsStrictlySortedBy key_cmp (list_map (λ e. e.0) es)
+    → ((q : List ℕ) → p q ≡ true → list_any (λ k. eq_by_cmp key_cmp q k) ks ≡ is_some (at_key es q)) → filter p ks ≡ filter p (list_map (λ e. e.0) es)
+same_where {X} ks es p s t h =
+    ap (filter p) (sym keys) ∙ listed_both (from_entries {R = key_cmp} (plain ks)) p (from_entries {R = key_cmp} es) p (λ q. by q (p q) refl)
+    ∙ ap (λ (l : List (List ℕ × X)). filter p (list_map (λ e. e.0) l)) (entries_of es t)
+  where
+    keys : map.keys (from_entries {R = key_cmp} (plain ks)) ≡ ks
+    keys =
+        let P : List (List ℕ) → Type 0 = λ l. IsStrictlySortedBy key_cmp l in
+        ap (list_map (λ (e : List ℕ × ℕ). e.0)) (entries_of (plain ks) (subst P (sym (plain_keys ks)) s)) ∙ plain_keys ks
+
+    by : (q : List ℕ) (b : Bool) → p q ≡ b → is_some (cond b (map.get (from_entries {R = key_cmp} (plain ks)) q) None) ≡ is_some (cond b (map.get (from_entries {R = key_cmp} es) q) None)
+    by q true e = contains_key-keys (from_entries {R = key_cmp} (plain ks)) q ∙ ap (list_any (λ k. eq_by_cmp key_cmp q k)) keys ∙ h q e ∙ ap is_some (sym (get_key es q))
+    by q false e = refl
 
 abbrev pub first : {A : Type 0} → List A → Option A
 first [] = None

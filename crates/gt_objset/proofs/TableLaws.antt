@@ -98,7 +98,7 @@ module _ (floor front q : ℕ) (es fs : List (List ℕ × Track)) (head next : H
 -- ---- taking memory
 
 module _ (floor front : ℕ) (es fs : List (List ℕ × Track)) (h : (path : List ℕ) → SameSlot (at_key es path) (at_key fs path)) where
-  slots : (path : List ℕ) → SameSlot (map.get (from_entries {R = key_cmp} es) path) (map.get (from_entries {R = key_cmp} fs) path)
+  pub slots : (path : List ℕ) → SameSlot (map.get (from_entries {R = key_cmp} es) path) (map.get (from_entries {R = key_cmp} fs) path)
   slots path =
       let P : Option Track → Type 0 = λ s. SameSlot s (at_key fs path) in
       let Q : Option Track → Type 0 = λ s. SameSlot (map.get (from_entries {R = key_cmp} es) path) s in

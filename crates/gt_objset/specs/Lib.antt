@@ -4,3 +4,4 @@ pub mod Table
 pub mod Agree
 pub mod Lists
 pub mod Seeds
+pub mod Members

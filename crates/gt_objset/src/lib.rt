@@ -2,8 +2,10 @@
 #![tactic(auto)]
 
 mod head;
+mod in_pool;
 mod laws;
 mod listing;
+mod members;
 mod merging;
 mod objset;
 mod place;

@@ -12,7 +12,9 @@ ghost use Rattle.gt_objset.specs.Lists.{own_names, members, all_paths, visible_n
 
 use crate::Place;
 use crate::head::{HeadChange, head_change};
-use crate::listing::{least_in_pool, paths_in_pool, paths_there};
+use crate::in_pool::{least_in_pool, paths_in_pool};
+use crate::listing::paths_there;
+use crate::members::Members;
 use crate::merging::in_one;
 use crate::plan::puts_of;
 use crate::repos::{Repos, put_repo, reserve_repo};
@@ -31,19 +33,21 @@ pub struct ObjSet {
     floor: u64,
     front: u64,
     repos: Repos,
+    members: Members,
     head: HeadChange,
     puts: ListOf<(Name, Option<Place>)>,
 }
 
 impl Model for ObjSet {
     ghost use Rattle.std.specs.FinMap as map;
-    ghost use Rattle.gt_objset.specs.Table.{Table, table_code, AllUpTo};
+    ghost use Rattle.gt_objset.specs.Table.{Table, table_code};
+    ghost use Rattle.gt_objset.specs.Members.{IsKept};
 
     ghost Value = { Table };
 
     ghost coded = { table_code };
 
-    ghost invariant = { λ t. AllUpTo t.front (map.from_entries t.repos.entries) };
+    ghost invariant = { λ t. IsKept t.floor t.front t.members (map.from_entries t.repos.entries) };
 
     ghost view = { λ t. record { floor = t.floor; front = t.front; repos = map.from_entries t.repos.entries; head = t.head; puts = t.puts } };
 }
@@ -58,6 +62,7 @@ impl ObjSet {
             floor,
             front: floor,
             repos: BTreeMap::new(alloc),
+            members: Members::new(alloc),
             head: HeadChange::none(),
             puts: ListOf::new(alloc),
         })
@@ -77,6 +82,9 @@ impl ObjSet {
         ensures ok { OnOk result (SeedsRepo path.now (record { is_pool = is_pool; pool = option_copied pool.entry }) self.old self.new) }
         ensures err { OnErr result (IsSameTable self.old self.new) }
     {
+        if let Err(error) = self.members.note_seed(alloc, path, pool) {
+            return Err(error);
+        }
         seed_repo(&mut self.repos, alloc, self.floor, path, is_pool, pool)
     }
 
@@ -125,6 +133,9 @@ impl ObjSet {
             Ok(puts) => puts,
             Err(error) => return Err(error),
         };
+        if let Err(error) = self.members.note(alloc, &entry.path, &head) {
+            return Err(error);
+        }
         if let Err(error) = reserve_repo(&mut self.repos, alloc, &entry.path, puts.as_slice()) {
             return Err(error);
         }
@@ -142,6 +153,7 @@ impl ObjSet {
     {
         let position = entry.position;
         let head = mem::replace(&mut self.head, HeadChange::none());
+        self.members.admit(&entry.path, &head);
         put_repo(
             &mut self.repos,
             position,
@@ -241,7 +253,7 @@ impl ObjSet {
         requires to { at ≤ self.now.front }
         ensures { IfOk result (λ paths. (base : Content) (places : List ℕ → List ℕ → Option Place) (log : List Entry) → Agrees self.now base places log → paths ≡ members (content_at self.now.floor base log at) path.now) }
     {
-        paths_in_pool(&self.repos, alloc, at, path)
+        paths_in_pool(&self.repos, &self.members, alloc, at, path)
     }
 
     /// The least repository that has this pool at a position. None where there is none.
@@ -250,7 +262,7 @@ impl ObjSet {
         requires to { at ≤ self.now.front }
         ensures { (base : Content) (places : List ℕ → List ℕ → Option Place) (log : List Entry) → Agrees self.now base places log → option_copied result ≡ least_member (content_at self.now.floor base log at) path.now }
     {
-        least_in_pool(&self.repos, at, path)
+        least_in_pool(&self.repos, &self.members, at, path)
     }
 
     /// All repositories at a position, ascending.

@@ -338,6 +338,71 @@ fn lists_ascend(rt: HostRuntime) -> Result<(), Fail> {
     Ok(())
 }
 
+/// Takes the memory of an entry that isn't added.
+fn prepare(set: &mut ObjSet, alloc: Global, text: &[u8], change: Change) -> Result<(), NoMemory> {
+    let entry = Entry {
+        position: set.front(),
+        path: path(alloc, text)?,
+        change,
+    };
+    set.prepare(alloc, &entry)
+}
+
+fn join(alloc: Global) -> Result<Change, NoMemory> {
+    let pool = path(alloc, b"p.git")?;
+    Ok(Change::Link { pool })
+}
+
+/// A pool that repositories join out of their order; one leaves, and one was about to join before it did.
+fn joined(alloc: Global) -> Result<ObjSet, NoMemory> {
+    let mut set = ObjSet::start(alloc, 0)?;
+    add(&mut set, alloc, b"p.git", Change::Create { pool: true })?;
+    for text in [b"a.git", b"b.git", b"c.git"] {
+        add(&mut set, alloc, text, Change::Create { pool: false })?;
+    }
+    add(&mut set, alloc, b"c.git", join(alloc)?)?;
+    prepare(&mut set, alloc, b"b.git", join(alloc)?)?;
+    add(&mut set, alloc, b"a.git", join(alloc)?)?;
+    add(&mut set, alloc, b"a.git", Change::Unlink { file: 9 })?;
+    add(&mut set, alloc, b"b.git", join(alloc)?)?;
+    Ok(set)
+}
+
+fn members_are(
+    set: &ObjSet,
+    alloc: Global,
+    at: u64,
+    in_pool: &[u8],
+    least: &[u8],
+) -> Result<bool, NoMemory> {
+    let pool = path(alloc, b"p.git")?;
+    if at < set.floor() || set.front() < at {
+        return Ok(false);
+    }
+    let members = set.members(alloc, at, &pool)?;
+    let members = spelled(alloc, &members)?;
+    Ok(members.as_slice() == in_pool && pool_is(set.least_member(at, &pool), least))
+}
+
+#[test]
+fn members_come_and_go(rt: HostRuntime) -> Result<(), Fail> {
+    let alloc = rt.alloc();
+    let joined = joined(alloc);
+    assert!(rt; joined.is_ok());
+    let rows: [(u64, &[u8], &[u8]); 4] = [
+        (5, b"c.git ", b"c.git"),
+        (6, b"a.git c.git ", b"a.git"),
+        (7, b"c.git ", b"c.git"),
+        (8, b"b.git c.git ", b"b.git"),
+    ];
+    if let Ok(set) = joined {
+        for row in rows {
+            assert_eq!(rt; members_are(&set, alloc, row.0, row.1, row.2), Ok(true));
+        }
+    }
+    Ok(())
+}
+
 fn seed(
     set: &mut ObjSet,
     alloc: Global,

@@ -7,7 +7,13 @@ use Rattle.gt_objset.specs.Places.{pool_in}
 use Rattle.gt_objset.specs.Lists.{members}
 use Rattle.gt_objset.proofs.TableLaws.{table}
 use Rattle.gt_objset.proofs.ListedLaws.{members_listed, ok_listed}
+use Rattle.gt_objset.proofs.MemberLaws.{covered}
 use Rattle.gt_objset.proofs.objset.ObjSet.members.Goals as goal
+
+pub paths_in_pool-requires : goal.paths_in_pool-requires
+paths_in_pool-requires c =
+    let low = rw (← c.self.view_is) at c.requires.from in
+    covered c.self.inside.floor c.self.inside.front c.args.at c.self.inside.members c.self.inside.repos.entries low c.self.invariant
 
 pub returns : goal.returns
 returns c =
