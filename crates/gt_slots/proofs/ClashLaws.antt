@@ -1,7 +1,8 @@
 -- The least reference that clashes with a name.
-use Rattle.std.proofs.Common.{◌≡◌, ℕ, nat_eq, Bool, true, false, cond, not, ◌&&◌, ◌||◌, is_some, T, List, [], ◌∷◌, ◌++◌, codes, Option, Some, None, find, refl, sym, ap, ◌∙◌, subst, arith, map}
+use Rattle.std.proofs.Common.{◌≡◌, ℕ, zero, suc, ◌<◌, length, nat_eq, Bool, true, false, cond, not, ◌&&◌, ◌||◌, is_some, T, List, [], ◌∷◌, ◌++◌, codes, Option, Some, None, find, refl, sym, ap, ◌∙◌, subst, arith, map}
 use Rattle.std.proofs.lemmas.Bool.Decides.{nat_tests}
-use Rattle.std.specs.List.{list_any, cons_option}
+use Rattle.std.specs.List.{list_any, cons_option, HoldsAt}
+use Rattle.std.proofs.Math.Bool.{or-true}
 use Rattle.std.specs.Option.{option_map, option_or}
 use Rattle.std.specs.declared.cmp.Ordering.{Ordering}
 use Rattle.std.specs.declared.cmp.Ordering.TheVariants.{Less, Equal, Greater}
@@ -321,3 +322,13 @@ module _ (c p : ℕ) (gone : List (List ℕ)) where
           ∙ ap (option_or (find (outside name) (front ps i j))) (sym (none_outside name (rest ps i j) place.after))
           ∙ sym (find-append (outside name) (front ps i j) (rest ps i j))
           ∙ ap (find (outside name)) (front_rest ps i j)
+
+-- ---- what is gone
+
+-- a name that a search met in a list is in it
+pub met_gone : (name : List ℕ) (gone : List (List ℕ)) (k : ℕ) → k < length gone → HoldsAt (λ y. key_cmp y name ≡ Equal) gone k → is_gone gone name ≡ true
+met_gone name [] k l h = absurd (omega arith)
+met_gone name (x ∷ xs) zero l h =
+    let same : name ≡ x = sym (key_cmp-IsAntisymmetric x name (h x)) in
+    ap (λ b. b || is_gone xs name) (ap (same_name name) (sym same) ∙ same_refl name)
+met_gone name (x ∷ xs) (suc k) l h = ap (λ b. same_name name x || b) (met_gone name xs k (omega arith) h) ∙ or-true (same_name name x)

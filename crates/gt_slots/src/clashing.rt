@@ -1,4 +1,4 @@
-ghost use Rattle.std.specs.Prelude.{◌≡◌, ◌<◌, ◌≤◌, ◌++◌, None, not, ◌&&◌, find, nat_eq, if◌then◌else◌, codes, length, take, slice_index_or};
+ghost use Rattle.std.specs.Prelude.{◌≡◌, ◌<◌, ◌≤◌, ◌++◌, None, true, not, ◌&&◌, find, nat_eq, if◌then◌else◌, codes, length, take, slice_index_or};
 ghost use Rattle.std.specs.FinMap as map;
 ghost use Rattle.std.specs.List.{list_any};
 ghost use Rattle.std.specs.Option.{option_copied, option_map, option_or};
@@ -184,8 +184,26 @@ fn stands(slot: &Slot, start: u64, position: u64, gone: &Names2) -> bool
     slot.1.value_since(start, position).is_some() && !is_gone(&slot.0, gone)
 }
 
+/// Whether a name is gone. Where the names that are gone ascend, halving meets each of them. Only one that isn't met is
+/// looked for in all: where they ascend that one stands, so `clash` answers it and asks for no other.
 fn is_gone(name: &RefName, gone: &Names2) -> bool
     ensures { result ≡ is_gone gone.now name.now }
 {
-    gone.as_slice().iter().any(|other| name == other)
+    is_met(name, gone.as_slice()) || is_among(name, gone.as_slice())
+}
+
+/// Whether halving meets a name. Where the names don't ascend, it may miss one.
+fn is_met(name: &RefName, names: &[RefName]) -> bool
+    ensures { result ≡ true → is_gone names.now name.now ≡ true }
+{
+    match names.binary_search(name) {
+        Ok(_) => true,
+        Err(_) => false,
+    }
+}
+
+fn is_among(name: &RefName, names: &[RefName]) -> bool
+    ensures { result ≡ is_gone names.now name.now }
+{
+    names.iter().any(|other| name == other)
 }

@@ -56,10 +56,10 @@ conflict laid u existing some is = by (target u) some
     by (Some new) e = ap (option_map (DirectoryConflict u.name)) is
 
 -- what the code has laid
-pub lays : (us : List RefUpdate) (refs : Names) (gone targets all : List (List ℕ)) → IsEachOnce (names us) → gone ≡ moved_names us → has_same targets all → all ≡ target_names us → Lays refs gone targets (with_refs refs us)
-lays us refs gone targets all once is same made =
+pub lays : (us : List RefUpdate) (refs : Names) (gone moved targets all : List (List ℕ)) → IsEachOnce (names us) → has_same gone moved → moved ≡ moved_names us → has_same targets all → all ≡ target_names us → Lays refs gone targets (with_refs refs us)
+lays us refs gone moved targets all once like is same made =
     λ q. laid us refs once q ∙ ap (λ (b : Bool). b || (is_some (map_of.get refs q) && not (has_name (moved_names us) q))) (sym (same q ∙ ap (λ (l : List (List ℕ)). has_name l q) made))
-    ∙ ap (λ (l : List (List ℕ)). has_name targets q || (is_some (map_of.get refs q) && not (has_name l q))) (sym is)
+    ∙ ap (λ (b : Bool). has_name targets q || (is_some (map_of.get refs q) && not b)) (sym (like q ∙ ap (λ (l : List (List ℕ)). has_name l q) is))
 
 -- ---- the first that fails
 

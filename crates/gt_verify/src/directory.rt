@@ -61,7 +61,8 @@ pub(crate) fn find_clashes<L: Look>(
     requires { IsEachOnce (map (λ u. u.name) refs.now) }
     ensures { Answers (first_some (directory_of (with_refs (refs_in (L.content front.now) path.now) refs.now)) refs.now) result }
 {
-    let gone = moved_names(alloc, refs)?;
+    // `clash` looks names up by halving where they ascend.
+    let gone = SortedRefs::of(moved_names(alloc, refs)?)?.into_list();
     let targets = SortedRefs::of(target_names(alloc, refs)?)?;
     for update in refs {
         if let Err(e) = find_clash(alloc, front, path, &gone, &targets, update) {

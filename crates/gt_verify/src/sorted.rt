@@ -8,7 +8,7 @@ ghost use Rattle.gt_model.specs.Verdicts.{is_under, clashes};
 ghost use Rattle.gt_verify.specs.Folders.{has_name, has_same, is_from, IsPlace, IsLeast, IsFolderAt};
 
 use gt_list::NoMemory;
-use gt_name::RefName;
+use gt_name::{Names2, RefName};
 use std::alloc::Global;
 use std::cmp::Ordering;
 use std::marker::Model;
@@ -39,6 +39,14 @@ impl SortedRefs {
             Ok(()) => Ok(SortedRefs { names }),
             Err(_) => Err(NoMemory),
         }
+    }
+
+    /// The names as a list.
+    pub(crate) fn into_list(self) -> Names2
+        ensures value { result ≡ self }
+        ensures sorted { IsSorted key_cmp result }
+    {
+        Names2::from_vec(self.names)
     }
 
     fn at(&self, place: usize) -> Option<&RefName>
