@@ -1,0 +1,6 @@
+pub mod CourseLaws
+pub mod Mapping
+pub mod NumberLaws
+pub mod PassLaws
+pub mod TableLaws
+pub mod TogetherLaws

@@ -1,0 +1,19 @@
+//! One session of a script: what its lines come to, over a partition.
+#![tactic(auto)]
+
+mod laws;
+mod listing;
+mod looking;
+mod parts;
+mod positions;
+mod session;
+mod staging;
+mod together;
+mod transacting;
+mod values;
+mod words;
+
+pub use laws::{forgotten_sessions_hold_nothing, new_sessions_hold_nothing};
+pub use parts::Parts;
+pub use session::Session;
+pub use together::Sessions;
