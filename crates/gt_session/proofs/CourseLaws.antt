@@ -50,21 +50,16 @@ seen_shut number_of number seen stage None e = refl
 seen_shut number_of number seen stage (Some p) e = absurd cc
 
 module _ {P : Type 0} (Did : Event → Result Done Refusal → P → P → Type 0) (next : ℕ) (s : Session) (old : P) where
-  -- every course may want memory
-  wants_memory : (c : Course) → Takes Did next s c (Err Memory, s) old old
-  wants_memory (alone turned) = inr (refl, refl)
-  wants_memory (asks e) = inr (refl, refl)
-  wants_memory (reads e make) = inr (refl, refl)
-
-  path_refused_at : (at : Option ℕ) (course : Course) (refusal : Refusal) → IsCause (option_map BadPath at) refusal → Takes Did next s (elim at [ None ↦ course | Some p ↦ refused s (BadPath p) ]) (Err refusal, s) old old
-  path_refused_at None course refusal e = subst (λ (r : Refusal). Takes Did next s course (Err r, s) old old) (sym e) (wants_memory course)
-  path_refused_at (Some p) course refusal e = inl (ap (λ (r : Refusal). (Err r, s)) e, refl)
+  -- the path is bad, or memory is wanted for it, where the course may want memory
+  path_refused_at : (at : Option ℕ) (course : Course) (refusal : Refusal) → Takes Did next s course (Err Memory, s) old old → IsCause (option_map BadPath at) refusal → Takes Did next s (elim at [ None ↦ course | Some p ↦ refused s (BadPath p) ]) (Err refusal, s) old old
+  path_refused_at None course refusal may e = subst (λ (r : Refusal). Takes Did next s course (Err r, s) old old) (sym e) may
+  path_refused_at (Some p) course refusal may e = inl (ap (λ (r : Refusal). (Err r, s)) e, refl)
 
   -- a path that is refused, where nothing is open
-  pub path_refused : (text : List ℕ) (course : Course) (refusal : Refusal) → s.open ≡ None → IsCause (path_cause text) refusal → Takes Did next s (unless_open s (with_path s text course)) (Err refusal, s) old old
-  path_refused text course refusal shut e =
+  pub path_refused : (text : List ℕ) (course : Course) (refusal : Refusal) → Takes Did next s course (Err Memory, s) old old → s.open ≡ None → IsCause (path_cause text) refusal → Takes Did next s (unless_open s (with_path s text course)) (Err refusal, s) old old
+  path_refused text course refusal may shut e =
       let F : Option Open → Type 0 = λ o. Takes Did next s (elim o [ None ↦ with_path s text course | Some p ↦ refused s AlreadyOpen ]) (Err refusal, s) old old in
-      subst F (sym shut) (path_refused_at (bad_path text) course refusal e)
+      subst F (sym shut) (path_refused_at (bad_path text) course refusal may e)
 
 -- a reference is staged with the old value that was found
 pub reference_taken :

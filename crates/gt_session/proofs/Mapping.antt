@@ -23,7 +23,7 @@ pub takes_map : {P Q : Type 0} (Did : Event → Result Done Refusal → P → P 
 takes_map Did Was p p' q q' calls same pin s (alone answered) turned (inl h) = inl (h.0, same h.1)
 takes_map Did Was p p' q q' calls same pin s (alone answered) turned (inr h) = inr (h.0, same h.1)
 takes_map Did Was p p' q q' calls same pin s (asks e) turned (inl h) = inl (calls e turned.0 h.0, h.1)
-takes_map Did Was p p' q q' calls same pin s (asks e) turned (inr h) = inr (h.0, same h.1)
+takes_map Did Was p p' q q' calls same pin s (asks e) turned (inr h) = inr (h.0, (h.1.0, same h.1.1))
 takes_map Did Was p p' q q' calls same pin s (reads e make) turned (inl h) = inl (h.0, calls e h.0 h.1, makes_map Did Was s make h.0 turned h.2)
 takes_map Did Was p p' q q' calls same pin s (reads e make) turned (inr h) = inr (h.0, same h.1)
 

@@ -127,7 +127,7 @@ module _ {P : Type 0} (Did : Event → Result Done Refusal → P → P → Type 
   takes_number (alone answered) turned old new k (inl h) = turned_number turned answered h.0 k
   takes_number (alone answered) turned old new k (inr h) = turned_number turned (Err Memory, s) h.0 refl
   takes_number (asks e) turned old new k (inl h) = ap (λ (t : Session). t.number) h.1 ∙ after_event_number s pin e turned.0
-  takes_number (asks e) turned old new k (inr h) = turned_number turned (Err Memory, s) h.0 refl
+  takes_number (asks e) turned old new k (inr h) = turned_number turned (Err Memory, s) h.1.0 refl
   takes_number (reads e make) turned old new k (inl h) = made_number make h.0 turned k h.2
   takes_number (reads e make) turned old new k (inr h) = turned_number turned (Err Memory, s) h.0 refl
 

@@ -1,5 +1,5 @@
 -- How a session does a line over a partition.
-use Rattle.std.specs.Prelude.{◌≡◌, ◌⊎◌, ℕ, List, [], ◌∷◌, ◌++◌, filter, not, nat_eq, Option, Some, None, Result, Ok, Err}
+use Rattle.std.specs.Prelude.{◌≡◌, ◌⊎◌, ℕ, List, [], ◌∷◌, ◌++◌, filter, false, not, nat_eq, Option, Some, None, Result, Ok, Err}
 use Rattle.std.specs.List.{IsAmong}
 use Rattle.gt_model.specs.declared.done.Done.{Done}
 use Rattle.gt_model.specs.declared.done.Done.TheVariants.{Aborted}
@@ -7,6 +7,7 @@ use Rattle.gt_model.specs.declared.event.Event.{Event}
 use Rattle.gt_model.specs.declared.event.Event.TheVariants.{Abort}
 use Rattle.gt_model.specs.declared.refusal.Refusal.{Refusal}
 use Rattle.gt_model.specs.declared.refusal.Refusal.TheVariants.{Memory}
+use Rattle.gt_model.specs.Machine.{is_certain}
 use Rattle.gt_session.specs.Sessions.{Open, Session}
 use Rattle.gt_session.specs.Courses.{Course, alone, asks, reads, Turned, after_event}
 
@@ -43,7 +44,7 @@ pub record LeavesOthers (held holds : Option ℕ) (old new : List ℕ) : Type 0 
 -- ---- a line, where `Did` says what may follow a call of the partition with this event and this answer
 
 module _ {P : Type 0} (Did : Event → Result Done Refusal → P → P → Type 0) where
-  -- the session wants memory, and nothing is done
+  -- the session wants memory, and nothing is done; an event that always ends as it says never waits for any
   abbrev pub Stops : Session → Turned → P → P → Type 0
   Stops s turned old new = (turned ≡ (Err Memory, s)) × (new ≡ old)
 
@@ -55,7 +56,7 @@ module _ {P : Type 0} (Did : Event → Result Done Refusal → P → P → Type 
   -- The line takes its course: its answer, the session and the partition after it. A pass that is given has this number.
   abbrev pub Takes : ℕ → Session → Course → Turned → P → P → Type 0
   Takes pin s (alone answered) turned old new = ((turned ≡ answered) × (new ≡ old)) ⊎ Stops s turned old new
-  Takes pin s (asks e) turned old new = (Did e turned.0 old new × (turned.1 ≡ after_event s pin e turned.0)) ⊎ Stops s turned old new
+  Takes pin s (asks e) turned old new = (Did e turned.0 old new × (turned.1 ≡ after_event s pin e turned.0)) ⊎ ((is_certain e ≡ false) × Stops s turned old new)
   Takes pin s (reads e make) turned old new = ((answer : Result Done Refusal) × Did e answer old new × Makes s make answer turned) ⊎ Stops s turned old new
 
   -- a line of a form that is done

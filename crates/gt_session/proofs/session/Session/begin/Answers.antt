@@ -1,4 +1,4 @@
-use Rattle.std.proofs.Common.{◌≡◌, ℕ, None, Option, ap, sym, subst, ◌∙◌}
+use Rattle.std.proofs.Common.{◌≡◌, ℕ, None, Option, ap, inr, refl, sym, subst, ◌∙◌}
 use Rattle.gt_session.specs.Sessions.{Session, pin_in}
 use Rattle.gt_session.specs.Calls.{LeavesOthers}
 use Rattle.gt_session.proofs.CourseLaws.{seen_shut, path_refused}
@@ -9,7 +9,7 @@ pub returns-in-Err-clause-takes : goal.returns-in-Err-clause-takes
 returns-in-Err-clause-takes g c =
     let f = g.P.Parts.number in
     let shut : c.args.self.now.open ≡ None = ap (λ (s : Session). s.open) (sym c.self.view_is ∙ seen_shut f c.self.inside.number c.self.inside.seen c.self.inside.stage c.self.inside.pass (sym c.if-is_some.ensures)) in
-    path_refused _ _ c.args.self.now c.args.parts.now c.args.path.now _ c.in-Err.refusal shut c.in-Err.ensures.err
+    path_refused _ _ c.args.self.now c.args.parts.now c.args.path.now _ c.in-Err.refusal (inr (refl, (refl, refl))) shut c.in-Err.ensures.err
 
 pub returns-clause-passes : goal.returns-clause-passes
 returns-clause-passes g c =
