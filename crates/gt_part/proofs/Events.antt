@@ -142,3 +142,18 @@ module _ (limits : Limits) where
 
   pub moves_none : (old : State) (v : View) → Moves limits old old v v
   moves_none old v stored = (stored, since_none (GivesEither limits old old) v)
+
+  -- ---- what leaves the log and the doubt as they are
+
+  -- without a call of the disk
+  pub moves_still : (old new : State) (v : View) → new.log ≡ old.log → new.doubt ≡ old.doubt → Moves limits old new v v
+  moves_still old new v log_is doubt_is stored =
+      (stored_of new (now v) old.log old.doubt log_is doubt_is (stored_as old (now v) old.log old.doubt refl refl stored), since_none (GivesEither limits old new) v)
+
+  -- once what was in doubt is settled
+  pub settling_still : (old mid new : State) (u v : View) → new.log ≡ mid.log → new.doubt ≡ mid.doubt → Settling old mid u v → Moves limits old new u v
+  settling_still old mid new u v log_is doubt_is settling stored =
+      let a = settling stored in (
+        stored_of new (now v) mid.log mid.doubt log_is doubt_is (stored_as mid (now v) mid.log mid.doubt refl refl a.0),
+        since_weaken (GivesThis limits old) (GivesEither limits old new) u v a.1 (λ states gives image is. inl (gives image is)),
+      )

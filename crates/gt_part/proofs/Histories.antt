@@ -11,7 +11,7 @@ use Rattle.gt_log.proofs.Images.{image_still}
 use Rattle.gt_model.specs.declared.entry.Entry.{Entry}
 use Rattle.gt_model.specs.declared.limits.Limits.{Limits}
 use Rattle.gt_model.specs.declared.turn.Turn.{Turn}
-use Rattle.gt_model.specs.Machine.{State, sure, line, Settles, is_faulty}
+use Rattle.gt_model.specs.Machine.{State, sure, line, with_doubt, Settles, is_faulty}
 use Rattle.gt_model.specs.Histories.{Happening, event, opened, last_tick, last_state, Happens}
 use Rattle.gt_part.specs.Spelling.{encode}
 use Rattle.gt_part.specs.Recovery.{recover, IsKept, KeepsFiles, IsGood}
@@ -21,14 +21,21 @@ use Rattle.gt_part.specs.Shown.{Shown, IsRun, HasRun, Continues, OneOpening, Kee
 use Rattle.gt_part.specs.Mounts.{Mounts}
 use Rattle.gt_part.proofs.Recovering.{recovered, map_last}
 use Rattle.gt_part.proofs.Events.{stored_gives}
-use Rattle.gt_part.proofs.Safe.{safe, safe_after, run_past}
+use Rattle.gt_part.proofs.Safe.{safe, safe_after, run_past, run_sound}
+use Rattle.gt_sound.specs.Sound.{AreSound, IsNamed}
+use Rattle.gt_sound.proofs.Logs.{log_sound}
+use Rattle.gt_sound.proofs.Steps.{step_sound, opening_sound}
 
 reverse-push : (trail : List Turn) (turn : Turn) → turn ∷ reverse trail ≡ reverse (trail ++ turn ∷ [])
 reverse-push trail turn = sym (reverse-append trail (turn ∷ []))
 
-pub event_more : (limits : Limits) → (start : State) (begin : ℕ) (history : List Happening) (v w : View) (s new : State) (trail : List Turn) (turn : Turn) → turn.tick ≡ w.clock → IsRun limits start begin history v s trail
+-- the state of a run is sound
+pub state_sound : (limits : Limits) (start : State) (begin : ℕ) (history : List Happening) (v : View) (s : State) (trail : List Turn) → IsRun limits start begin history v s trail → AreSound (line s)
+state_sound limits start begin history v s trail run = subst (λ (x : State). AreSound (line x)) run.leads (run_sound limits start begin v.at history run.run)
+
+pub event_more : (limits : Limits) → (start : State) (begin : ℕ) (history : List Happening) (v w : View) (s new : State) (trail : List Turn) (turn : Turn) → turn.tick ≡ w.clock → IsNamed turn.event → IsRun limits start begin history v s trail
     → Happens limits s (event turn new) → Moves limits s new v w → IsRun limits start begin (event turn new ∷ history) w new (trail ++ turn ∷ [])
-event_more limits start begin history v w s new trail turn tick_is run step moves =
+event_more limits start begin history v w s new trail turn tick_is named run step moves =
     let m = moves run.stored in
     let since : Since (GivesEither limits s new) v w = m.1 in
     let u_is : last_tick begin history ≡ v.clock = run.clock in
@@ -41,6 +48,7 @@ event_more limits start begin history v w s new trail turn tick_is run step move
           later = omega (arith, u_is, tick_is, since.later);
           during = λ k lt le. subst (λ (x : State). GivesEither limits x new (w.at k)) (sym run.leads) (since.each k (omega (arith, lt, u_is)) (omega (arith, le, tick_is)));
           end = subst (λ (k : ℕ). GivesThis limits new (w.at k)) (sym tick_is) (stored_gives limits new (now w) m.0);
+          sound = step_sound limits s new turn.event step.0 named step.1 (state_sound limits start begin history v s trail run);
         },
       );
       events = ap (λ (l : List Turn). turn ∷ l) run.events ∙ reverse-push trail turn;
@@ -68,14 +76,14 @@ keeps log states each k lt = (_, each k (omega (arith, lt, length-map log encode
 keeps_front : (log : List Entry) (u : Entry) (states : States) → KeepsFiles (log ++ u ∷ []) states → KeepsFiles log states
 keeps_front log u states each k lt = each k (omega (arith, lt, length-append log (u ∷ [])))
 
-pub stored_good : (limits : Limits) → (s : State) (states : States) → Stored limits s states → IsGood limits states
-stored_good limits s states stored image is = by s.log s.doubt stored.files (stored_gives limits s states stored image is)
+pub stored_good : (limits : Limits) → (s : State) (states : States) → Stored limits s states → AreSound (line s) → IsGood limits states
+stored_good limits s states stored sound image is = by s.log s.doubt stored.files sound (stored_gives limits s states stored image is)
   where
-    by : (log : List Entry) (doubt : Option Entry) → FilesHave log doubt states → Gives limits (record { log = log; doubt = doubt; pins = [] }) image → (l : List Entry) × (recover limits image ≡ Ok l) × KeepsFiles l states
-    by log None files (inl r) = (log, r, keeps log states files.each)
-    by log None files (inr r) = (log, r, keeps log states files.each)
-    by log (Some u) files (inl r) = (log, r, keeps_front log u states (keeps (log ++ u ∷ []) states (subst (λ (e : List (List ℕ)). KeepsEntries e states) (sym (map_last log u)) files.each)))
-    by log (Some u) files (inr r) = (log ++ u ∷ [], r, keeps (log ++ u ∷ []) states (subst (λ (e : List (List ℕ)). KeepsEntries e states) (sym (map_last log u)) files.each))
+    by : (log : List Entry) (doubt : Option Entry) → FilesHave log doubt states → AreSound (with_doubt log doubt) → Gives limits (record { log = log; doubt = doubt; pins = [] }) image → (l : List Entry) × (recover limits image ≡ Ok l) × KeepsFiles l states × AreSound l
+    by log None files sound (inl r) = (log, r, keeps log states files.each, sound)
+    by log None files sound (inr r) = (log, r, keeps log states files.each, sound)
+    by log (Some u) files sound (inl r) = (log, r, keeps_front log u states (keeps (log ++ u ∷ []) states (subst (λ (e : List (List ℕ)). KeepsEntries e states) (sym (map_last log u)) files.each)), log_sound log (Some u) sound)
+    by log (Some u) files sound (inr r) = (log ++ u ∷ [], r, keeps (log ++ u ∷ []) states (subst (λ (e : List (List ℕ)). KeepsEntries e states) (sym (map_last log u)) files.each), sound)
 
 pub holds_now : (limits : Limits) (start : State) (begin : ℕ) (history : List Happening) (v : View) (s : State) (trail : List Turn) → IsRun limits start begin history v s trail → Holds limits start begin history v
 holds_now limits start begin history v s trail run = record {
@@ -104,12 +112,12 @@ holds_later limits start begin history v w s trail run narrows =
     }
 
 pub continues : {D : Type 0} (view : D → View) (start : State) (begin : ℕ) (history : List Happening) (P : List Happening → Type 0) (later : List Happening) (old p : Shown D) → p.limits ≡ old.limits → P later → KeepsPast (view old.disk) (view p.disk) → HasRun view start begin (later ++ history) p → Continues view start begin history P old p
-continues view start begin history P later old p limits this past run = record { later = later; past = past; limits = limits; this = this; run = run; holds = subst (λ (l : Limits). Holds l start begin (later ++ history) (view p.disk)) limits (holds_now p.limits start begin (later ++ history) (view p.disk) p.state p.trail run); good = subst (λ (l : Limits). IsGood l (now (view p.disk))) limits (stored_good p.limits p.state (now (view p.disk)) run.stored) }
+continues view start begin history P later old p limits this past run = record { later = later; past = past; limits = limits; this = this; run = run; holds = subst (λ (l : Limits). Holds l start begin (later ++ history) (view p.disk)) limits (holds_now p.limits start begin (later ++ history) (view p.disk) p.state p.trail run); good = subst (λ (l : Limits). IsGood l (now (view p.disk))) limits (stored_good p.limits p.state (now (view p.disk)) run.stored (state_sound p.limits start begin (later ++ history) (view p.disk) p.state p.trail run)) }
 
 -- ---- openings
 
 -- what a good disk shows is still
-pub good_entries : (limits : Limits) → (v : View) (log : List Entry) → IsImage (now v) v.reads → IsGood limits (now v) → recover limits v.reads ≡ Ok log → Recovers v.reads (map encode log) × KeepsEntries (map encode log) (now v) × IsKept log × (length log ≤ limits.positions)
+pub good_entries : (limits : Limits) → (v : View) (log : List Entry) → IsImage (now v) v.reads → IsGood limits (now v) → recover limits v.reads ≡ Ok log → Recovers v.reads (map encode log) × KeepsEntries (map encode log) (now v) × IsKept log × (length log ≤ limits.positions) × AreSound log
 good_entries limits v log shows good is =
     let g = good v.reads shows in
     let r = recovered limits v.reads log is in
@@ -121,7 +129,11 @@ good_entries limits v log shows good is =
           at.1 ∙ ap still (sym (image_still (now v) v.reads (entry_file (k + 1)) at.0 shows at.1) ∙ r.files.each k lt)),
       r.legal,
       r.within,
+      subst AreSound same g.3,
     )
+
+pub opened_sound : (limits : Limits) → (v : View) (log : List Entry) → IsImage (now v) v.reads → IsGood limits (now v) → recover limits v.reads ≡ Ok log → AreSound log
+opened_sound limits v log shows good is = (good_entries limits v log shows good is).4
 
 pub opened_stored : (limits : Limits) → (v w x : View) (log : List Entry) → IsImage (now v) v.reads → IsGood limits (now v) → recover limits v.reads ≡ Ok log
     → ((entries : List (List ℕ)) → Recovers v.reads entries → KeepsEntries entries (now v) → Stands entries (now w)) → Quiet w x → Stored limits (sure log) (now x)
@@ -130,8 +142,8 @@ opened_stored limits v w x log shows good is stands quiet =
     let here : now x ≡ now w = ap (λ (k : ℕ). x.at k) quiet.clock ∙ ap (λ (a : ℕ → States). a w.clock) quiet.at in
     record { files = subst (λ (s : States). Stands (map encode log) s) (sym here) (stands (map encode log) e.0 e.1); legal = e.2; within = e.3 }
 
-pub first_opened : (limits : Limits) → (x : View) (log : List Entry) → Stored limits (sure log) (now x) → IsRun limits (sure log) x.clock [] x (sure log) []
-first_opened limits x log stored = record { stored = stored; run = (stored_gives limits (sure log) (now x) stored, tt); events = refl; leads = refl; clock = refl }
+pub first_opened : (limits : Limits) → (x : View) (log : List Entry) → Stored limits (sure log) (now x) → AreSound log → IsRun limits (sure log) x.clock [] x (sure log) []
+first_opened limits x log stored sound = record { stored = stored; run = (stored_gives limits (sure log) (now x) stored, tt, sound); events = refl; leads = refl; clock = refl }
 
 pub settled_by : (limits : Limits) → (s : State) (v : View) (log : List Entry) → Stored limits s (now v) → IsImage (now v) v.reads → recover limits v.reads ≡ Ok log → Settles s (sure log)
 settled_by limits s v log stored shows is = ⊎_elim
@@ -152,6 +164,7 @@ opened_more limits start begin history v w s new trail run settles narrows store
           later = omega (arith, u_is, narrows.later);
           during = λ k lt le. subst (λ (x : State). GivesEither limits x new (w.at k)) (sym run.leads) (λ image is. inl (stored_gives limits s (now v) run.stored image (narrows.each k (omega (arith, lt, u_is)) le image is)));
           end = stored_gives limits new (now w) stored;
+          sound = opening_sound s new settles (state_sound limits start begin history v s trail run);
         },
       );
       events = refl;
@@ -169,7 +182,7 @@ module _ {D : Type 0} (view : D → View) (start : State) (begin : ℕ) (history
       let v = view old.disk in
       let is : recover old.limits v.reads ≡ Ok mounts.0 = ap (λ (d : D). recover old.limits (view d).reads) (sym same) ∙ mounts.1 in
       let settles : Settles old.state p.state = subst (λ (s : State). Settles old.state s) (sym mounts.2) (settled_by old.limits old.state v mounts.0 run.stored shows is) in
-      let here : IsGood old.limits (now (view disk)) = subst (λ (d : D). IsGood old.limits (now (view d))) (sym same) (stored_good old.limits old.state (now v) run.stored) in
+      let here : IsGood old.limits (now (view disk)) = subst (λ (d : D). IsGood old.limits (now (view d))) (sym same) (stored_good old.limits old.state (now v) run.stored (state_sound old.limits start begin history v old.state old.trail run)) in
       let narrowed : Narrows v (view p.disk) = subst (λ (d : D). Narrows (view d) (view p.disk)) same narrows in
       let stored : Stored old.limits p.state (now (view p.disk)) = subst (λ (l : Limits). Stored l p.state (now (view p.disk))) limits (good here).stored in
       let more = opened_more old.limits start begin history v (view p.disk) old.state p.state old.trail run settles narrowed stored in

@@ -10,7 +10,7 @@ use Rattle.gt_model.specs.declared.limits.Limits.{Limits}
 use Rattle.gt_model.specs.Contents.{Content, nothing, after}
 use Rattle.gt_model.specs.Machine.{content}
 use Rattle.gt_model.proofs.Logs.{content-push}
-use Rattle.gt_part.specs.declared.table.Table.{Table}
+use Rattle.gt_table.specs.Table.{Tables}
 use Rattle.gt_part.specs.declared.unread.Unread.{Unread}
 use Rattle.gt_part.specs.declared.unread.Unread.TheVariants.{Failed, Damaged, Memory as NoMemory}
 use Rattle.gt_log.specs.declared.mount_cause.MountCause.TheVariants.{DeviceFault}
@@ -78,7 +78,7 @@ past_limit limits files b is = ap (λ (t : Bool). cond t (Err (gate_file, limits
 pub too_long : (limits : Limits) (files : Files) (len : ℕ) → len ≡ content_length (files gate_file) → limits.positions < len → recover limits files ≡ Err (gate_file, limits.positions)
 too_long limits files len is lt = past_limit limits files true (grind (arith, nat_tests))
 
-pub loads_within : (limits : Limits) (files : Files) (len : ℕ) (result : Result Table MountCause) → len ≡ content_length (files gate_file) → len ≤ limits.positions → Loads (read_log files nothing 1 len) result → Loads (recover limits files) result
+pub loads_within : (limits : Limits) (files : Files) (len : ℕ) (result : Result Tables MountCause) → len ≡ content_length (files gate_file) → len ≤ limits.positions → Loads (read_log files nothing 1 len) result → Loads (recover limits files) result
 loads_within limits files len result is le loads =
     let whole : read_log files nothing 1 len ≡ recover limits files = ap (read_log files nothing 1) is ∙ sym (past_limit limits files false (grind (arith, nat_tests))) in
     subst (λ (r : Result (List Entry) Damage). Loads r result) whole loads

@@ -3,7 +3,6 @@ use Rattle.std.proofs.Common.{◌≡◌, ◌⊎◌, inl, inr, ⊎_elim, ℕ, zer
 use Rattle.std.proofs.lemmas.List.{length-map, map-append}
 use Rattle.std.proofs.lemmas.Bool.Decides.{nat_tests}
 use Rattle.std.specs.Prelude.{bytes_eq}
-use Rattle.gt_entry.specs.Fits.{HasChangeSpelling}
 use Rattle.gt_entry.specs.Reading.{entry_of}
 use Rattle.gt_model.specs.declared.change.Change.{Change}
 use Rattle.gt_model.specs.declared.change.Change.TheVariants.{Create, Delete, Link, Write, Repack, Prune, PackRefs, Unlink}
@@ -15,7 +14,8 @@ use Rattle.gt_model.specs.declared.limits.Limits.{Limits}
 use Rattle.gt_model.specs.Contents.{Content, nothing, after, fits, IsLegal}
 use Rattle.gt_model.specs.Machine.{content}
 use Rattle.gt_model.proofs.Logs.{legal_front, legal_append}
-use Rattle.gt_part.specs.Spelling.{encode, is_creation, IsCreation, IsSpelled, AreSpelled, exactly, placed, decode}
+use Rattle.gt_part.specs.Spelling.{encode, IsSpelled, AreSpelled, exactly, placed, decode}
+use Rattle.gt_table.specs.Built.{is_built, IsBuilt}
 use Rattle.gt_part.specs.Recovery.{Damage, fitting, entry_in, and_more, read_log, recover, IsKept}
 use Rattle.gt_part.proofs.Bytes.{pointwise-refl, pointwise-true}
 
@@ -68,12 +68,12 @@ both : (a b : Bool) → (a && b) ≡ true → (a ≡ true) × (b ≡ true)
 both true b is = (refl, is)
 both false b is = absurd (cc (is))
 
-fitted : (c : Content) (r : Result Entry ℕ) (u : Entry) → fitting c r ≡ Ok u → (r ≡ Ok u) × IsCreation u × IsTrue (fits c u)
+fitted : (c : Content) (r : Result Entry ℕ) (u : Entry) → fitting c r ≡ Ok u → (r ≡ Ok u) × IsBuilt u × IsTrue (fits c u)
 fitted c (Err at) u is = absurd (cc (is))
 fitted c (Ok x) u is =
-    let h = passed (is_creation x.change && fits c x) 0 x u is in
-    let b = both (is_creation x.change) (fits c x) h.0 in
-    (ap Ok h.1, ap (λ (e : Entry). is_creation e.change) (sym h.1) ∙ b.0, ap (fits c) (sym h.1) ∙ b.1)
+    let h = passed (is_built x.change && fits c x) 0 x u is in
+    let b = both (is_built x.change) (fits c x) h.0 in
+    (ap Ok h.1, ap (λ (e : Entry). is_built e.change) (sym h.1) ∙ b.0, ap (fits c) (sym h.1) ∙ b.1)
 
 placed_there : (p : ℕ) (r : Result Entry ℕ) (u : Entry) → placed p r ≡ Ok u → (r ≡ Ok u) × (u.position ≡ p)
 placed_there p (Err at) u is = absurd (cc (is))
@@ -88,7 +88,7 @@ exactly_so bytes (Ok x) u is =
     let h = passed (bytes_eq (encode x) bytes) 0 x u is in
     (ap Ok h.1, sym (pointwise-true (encode x) bytes h.0) ∙ ap encode h.1)
 
-found : (file : FileContent) (p : ℕ) (u : Entry) → decode p file ≡ Ok u → IsCreation u → (file ≡ Some (encode u)) × (u.position ≡ p) × IsSpelled u
+found : (file : FileContent) (p : ℕ) (u : Entry) → decode p file ≡ Ok u → IsBuilt u → (file ≡ Some (encode u)) × (u.position ≡ p) × IsSpelled u
 found None p u is made = absurd (cc (is))
 found (Some bytes) p u is made =
     let a = placed_there p (exactly bytes (entry_of bytes)) u is in
@@ -153,17 +153,6 @@ recovered limits files log is = by (nat_lt limits.positions (content_length (fil
           legal = (r.legal, r.spelled);
           within = omega (arith, within, r.count_is);
         }
-
--- the creation of a repository has a spelling
-pub creation_spelling : (c : Change) → is_creation c ≡ true → HasChangeSpelling c
-creation_spelling (Create pool) is = tt
-creation_spelling Delete is = absurd (cc (is))
-creation_spelling (Link pool) is = absurd (cc (is))
-creation_spelling (Write refs needed added) is = absurd (cc (is))
-creation_spelling (Repack file dropped) is = absurd (cc (is))
-creation_spelling (Prune file dropped) is = absurd (cc (is))
-creation_spelling (PackRefs file) is = absurd (cc (is))
-creation_spelling (Unlink file) is = absurd (cc (is))
 
 -- ---- a log in two parts
 

@@ -1,7 +1,7 @@
 -- A history is safe at each of its moments.
-use Rattle.std.proofs.Common.{◌≡◌, ◌⊎◌, inl, inr, ⊎_elim, ℕ, ◌<◌, ◌≤◌, max, Bool, true, false, nat_lt, cond, List, [], ◌∷◌, length, take, Option, Some, None, Ok, refl, sym, ◌∙◌, ap, subst, arith, length-append}
+use Rattle.std.proofs.Common.{◌≡◌, ◌⊎◌, inl, inr, ⊎_elim, ℕ, ◌<◌, ◌≤◌, max, Bool, true, false, nat_lt, cond, List, [], ◌∷◌, length, take, drop, Option, Some, None, Ok, refl, sym, ◌∙◌, ap, subst, arith, length-append}
 use Rattle.std.proofs.lemmas.Bool.{cases_lt}
-use Rattle.std.proofs.lemmas.List.{take_all, take-append-le}
+use Rattle.std.proofs.lemmas.List.{take_all, take-append-le, take-append-drop}
 use Rattle.std.proofs.lemmas.Bool.Decides.{nat_tests}
 use Rattle.gt_disk.specs.Files.{Files, States, IsImage}
 use Rattle.gt_model.specs.declared.entry.Entry.{Entry}
@@ -11,13 +11,16 @@ use Rattle.gt_model.specs.Histories.{Happening, tick, state, acks, last_tick, la
 use Rattle.gt_part.specs.Recovery.{recover}
 use Rattle.gt_part.specs.Stored.{Gives, GivesThis, GivesEither}
 use Rattle.gt_part.specs.Crash.{Run, IsSafe}
+use Rattle.gt_sound.specs.Sound.{AreSound}
+use Rattle.gt_sound.proofs.Logs.{front_sound}
 use Rattle.gt_model.proofs.Runs.{run_acked}
 use Rattle.gt_part.proofs.Recovering.{recovered}
 
 abbrev size : State → ℕ
 size s = length s.log
 
-len_line : (log : List Entry) (doubt : Option Entry) → length log ≤ length (with_doubt log doubt)
+-- a line is as long as its log
+pub len_line : (log : List Entry) (doubt : Option Entry) → length log ≤ length (with_doubt log doubt)
 len_line log None = omega arith
 len_line log (Some u) = omega (arith, length-append log (u ∷ []))
 
@@ -30,7 +33,16 @@ module _ (limits : Limits) where
   acked_le : (start : State) (begin : ℕ) (at : ℕ → States) (history : List Happening) → Run limits start begin at history → (m : ℕ) → acked start history m ≤ size (last_state start history)
   acked_le start begin at history run m = run_acked limits start history m (is_run start begin at history run)
 
+  -- what a run has come to is sound
+  pub run_sound : (start : State) (begin : ℕ) (at : ℕ → States) (history : List Happening) → Run limits start begin at history → AreSound (line (last_state start history))
+  run_sound start begin at [] run = run.2
+  run_sound start begin at (h ∷ older) run = run.2.sound
+
   -- ---- what an image gives is the front of a line
+
+  part_sound : (n : ℕ) (line log : List Entry) → AreSound line → log ≡ take n line → AreSound log
+  part_sound n line log sound is =
+      subst AreSound (sym is) (front_sound (take n line) (drop n line) (subst AreSound (sym (take-append-drop n line)) sound))
 
   take_with : (log : List Entry) (doubt : Option Entry) → log ≡ take (length log) (with_doubt log doubt)
   take_with log None = sym (take_all (length log) log (omega arith))
@@ -50,14 +62,18 @@ module _ (limits : Limits) where
   abbrev Safely : ℕ → State × State → Files → Type 0
   Safely n both image = (log : List Entry) × (recover limits image ≡ Ok log) × IsSafe n both.0 both.1 log
 
-  safely : (n : ℕ) (old new : State) (image : Files) (log : List Entry) → recover limits image ≡ Ok log → n ≤ length log → (log ≡ take (length log) (line old)) ⊎ (log ≡ take (length log) (line new)) → IsSafe n old new log
-  safely n old new image log is le front = record { all = le; front = front; legal = (recovered limits image log is).legal.0 }
+  safely : (n : ℕ) (old new : State) (image : Files) (log : List Entry) → recover limits image ≡ Ok log → n ≤ length log → (log ≡ take (length log) (line old)) ⊎ (log ≡ take (length log) (line new)) → AreSound log → IsSafe n old new log
+  safely n old new image log is le front sound = record { all = le; front = front; legal = (recovered limits image log is).legal.0; sound = sound }
 
-  from_old : (n : ℕ) (old new : State) (image : Files) → n ≤ size old → Gives limits old image → Safely n (old, new) image
-  from_old n old new image le gives = let g = given old image gives in (g.log, g.recovers, safely n old new image g.log g.recovers (omega (arith, le, g.long)) (inl g.front))
+  from_old : (n : ℕ) (old new : State) (image : Files) → n ≤ size old → AreSound (line old) → Gives limits old image → Safely n (old, new) image
+  from_old n old new image le sound gives =
+      let g = given old image gives in
+      (g.log, g.recovers, safely n old new image g.log g.recovers (omega (arith, le, g.long)) (inl g.front) (part_sound (length g.log) (line old) g.log sound g.front))
 
-  from_new : (n : ℕ) (old new : State) (image : Files) → n ≤ size new → Gives limits new image → Safely n (old, new) image
-  from_new n old new image le gives = let g = given new image gives in (g.log, g.recovers, safely n old new image g.log g.recovers (omega (arith, le, g.long)) (inr g.front))
+  from_new : (n : ℕ) (old new : State) (image : Files) → n ≤ size new → AreSound (line new) → Gives limits new image → Safely n (old, new) image
+  from_new n old new image le sound gives =
+      let g = given new image gives in
+      (g.log, g.recovers, safely n old new image g.log g.recovers (omega (arith, le, g.long)) (inr g.front) (part_sound (length g.log) (line new) g.log sound g.front))
 
   lt_true : (m n : ℕ) → m < n → nat_lt m n ≡ true
   lt_true m n lt = grind (arith, nat_tests)
@@ -71,13 +87,13 @@ module _ (limits : Limits) where
       let g = given new image gives in
       let ok : Ok log ≡ Ok g.log = sym recovers ∙ g.recovers in
       let same : log ≡ g.log = cc ok in
-      (log, recovers, record { all = omega (arith, le, g.long, ap (λ (l : List Entry). length l) same); front = is_safe.front; legal = is_safe.legal })
+      (log, recovers, record { all = omega (arith, le, g.long, ap (λ (l : List Entry). length l) same); front = is_safe.front; legal = is_safe.legal; sound = is_safe.sound })
 
   pub safe : (start : State) (begin : ℕ) (at : ℕ → States) (history : List Happening) → Run limits start begin at history → (m : ℕ) → begin ≤ m → m ≤ last_tick begin history
       → (image : Files) → IsImage (at m) image → Safely (acked start history m) (around start begin history m) image
   safe start begin at [] run m ge le image is =
       let here : m ≡ begin = omega (arith, ge, le) in
-      from_old (size start) start start image (omega arith) (run.0 image (subst (λ (k : ℕ). IsImage (at k) image) here is))
+      from_old (size start) start start image (omega arith) run.2 (run.0 image (subst (λ (k : ℕ). IsImage (at k) image) here is))
   safe start begin at (h ∷ older) run m ge le image is =
       let u = last_tick begin older in
       let old = last_state start older in
@@ -93,12 +109,12 @@ module _ (limits : Limits) where
               | inl early ↦
                   let same : acked start (h ∷ older) m ≡ acked start older m = ap (λ (b : Bool). max (cond b 0 (acks h)) (acked start older m)) (lt_true m (tick h) early) ∙ (let e : max 0 (acked start older m) ≡ acked start older m = omega arith in e) in
                   ⊎_elim
-                  (λ gives. from_old (acked start (h ∷ older) m) old (state h) image (omega (arith, same, low)) gives)
-                  (λ gives. from_new (acked start (h ∷ older) m) old (state h) image top gives)
+                  (λ gives. from_old (acked start (h ∷ older) m) old (state h) image (omega (arith, same, low)) (run_sound start begin at older run.0) gives)
+                  (λ gives. from_new (acked start (h ∷ older) m) old (state h) image top run.2.sound gives)
                   (run.2.during m later le image is)
               | inr late ↦
                   let here : m ≡ tick h = omega (arith, late, le) in
-                  from_new (acked start (h ∷ older) m) old (state h) image top (run.2.end image (subst (λ (k : ℕ). IsImage (at k) image) here is))
+                  from_new (acked start (h ∷ older) m) old (state h) image top run.2.sound (run.2.end image (subst (λ (k : ℕ). IsImage (at k) image) here is))
             ])
         | inr earlier ↦
             let both : around start begin (h ∷ older) m ≡ around start begin older m =
@@ -119,7 +135,7 @@ module _ (limits : Limits) where
 
   -- what comes later leaves a history as it was
   pub run_past : (start : State) (begin : ℕ) (at next : ℕ → States) (history : List Happening) → ((m : ℕ) → m ≤ last_tick begin history → next m ≡ at m) → Run limits start begin at history → Run limits start begin next history
-  run_past start begin at next [] past run = (subst (λ (x : States). GivesThis limits start x) (sym (past begin (omega arith))) run.0, run.1)
+  run_past start begin at next [] past run = (subst (λ (x : States). GivesThis limits start x) (sym (past begin (omega arith))) run.0, run.1, run.2)
   run_past start begin at next (h ∷ older) past run = (
     run_past start begin at next older (λ m le. past m (omega (arith, le, run.2.later))) run.0,
     run.1,
@@ -127,6 +143,7 @@ module _ (limits : Limits) where
       later = run.2.later;
       during = λ m lt le. subst (λ (x : States). GivesEither limits (last_state start older) (state h) x) (sym (past m le)) (run.2.during m lt le);
       end = subst (λ (x : States). GivesThis limits (state h) x) (sym (past (tick h) (omega arith))) run.2.end;
+      sound = run.2.sound;
     },
   )
 
@@ -144,4 +161,4 @@ module _ (limits : Limits) where
       → (image : Files) → Gives limits (last_state start history) image → Safely (acked start history m) (around start begin history m) image
   safe_after start begin at history run m lt image gives =
       subst (λ (p : State × State). Safely (acked start history m) p image) (sym (around_after start begin history m lt))
-      (from_new (acked start history m) (last_state start history) (last_state start history) image (acked_le start begin at history run m) gives)
+      (from_new (acked start history m) (last_state start history) (last_state start history) image (acked_le start begin at history run m) (run_sound start begin at history run) gives)

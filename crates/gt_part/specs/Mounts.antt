@@ -8,8 +8,8 @@ use Rattle.gt_log.specs.Log.{entry_file}
 use Rattle.gt_model.specs.declared.entry.Entry.{Entry}
 use Rattle.gt_model.specs.Machine.{sure}
 use Rattle.gt_part.specs.Recovery.{Damage}
+use Rattle.gt_table.specs.Table.{Tables}
 use Rattle.gt_part.specs.Shown.{Shown}
-use Rattle.gt_part.specs.declared.table.Table.{Table}
 use Rattle.gt_part.specs.declared.unread.Unread.{Unread}
 use Rattle.gt_part.specs.declared.unread.Unread.TheVariants.{Failed, Damaged as Spoiled, Memory as NoMemory}
 
@@ -33,8 +33,8 @@ cause_of position (Spoiled at) = Damaged (entry_file position) at
 cause_of position NoMemory = Memory
 
 -- What the files recover to is loaded, or the first damage is named.
-abbrev pub Loads : Result (List Entry) Damage → Result Table MountCause → Type 0
-Loads recovered (Ok table) = recovered ≡ Ok table.entries.items
+abbrev pub Loads : Result (List Entry) Damage → Result Tables MountCause → Type 0
+Loads recovered (Ok table) = recovered ≡ Ok table.log
 Loads recovered (Err cause) = Blames recovered cause
 
 -- What the files recover to is opened, or the first damage is named.

@@ -6,7 +6,9 @@ use Rattle.gt_log.specs.Log.{gate_file, entry_file, content_length}
 use Rattle.gt_model.specs.declared.entry.Entry.{Entry}
 use Rattle.gt_model.specs.declared.limits.Limits.{Limits}
 use Rattle.gt_model.specs.Contents.{Content, nothing, after, fits, IsLegal}
-use Rattle.gt_part.specs.Spelling.{decode, is_creation, AreSpelled}
+use Rattle.gt_sound.specs.Sound.{AreSound}
+use Rattle.gt_table.specs.Built.{is_built}
+use Rattle.gt_part.specs.Spelling.{decode, AreSpelled}
 
 -- a file that is damaged, and the place in it
 abbrev pub Damage : Type 0
@@ -14,7 +16,7 @@ Damage = FileId × ℕ
 
 -- It fits the content before it, and is of a kind that is built.
 abbrev pub fitting : Content → Result Entry ℕ → Result Entry ℕ
-fitting c (Ok e) = if is_creation e.change && fits c e then Ok e else Err 0
+fitting c (Ok e) = if is_built e.change && fits c e then Ok e else Err 0
 fitting c (Err at) = Err at
 
 -- the entry of a file that is there, spells an entry at this position, and fits the content before it, or the first bad place
@@ -42,9 +44,9 @@ IsKept log = IsLegal nothing 1 log × AreSpelled log
 abbrev pub KeepsFiles : List Entry → States → Type 0
 KeepsFiles log states = (k : ℕ) → k < length log → (x : FileContent) × (states (entry_file (k + 1)) ≡ still x)
 
--- Whatever a stop leaves recovers, and the files that it recovers by are still.
+-- Whatever a stop leaves recovers to sound contents, and the files that it recovers by are still.
 abbrev pub IsGood : Limits → States → Type 0
-IsGood limits states = (image : Files) → IsImage states image → (log : List Entry) × (recover limits image ≡ Ok log) × KeepsFiles log states
+IsGood limits states = (image : Files) → IsImage states image → (log : List Entry) × (recover limits image ≡ Ok log) × KeepsFiles log states × AreSound log
 
 abbrev pub prepend : List Entry → Result (List Entry) Damage → Result (List Entry) Damage
 prepend xs (Ok ys) = Ok (xs ++ ys)

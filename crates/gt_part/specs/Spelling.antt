@@ -1,26 +1,17 @@
 -- How an entry is spelled in its file, and read from it.
-use Rattle.std.specs.Prelude.{◌≡◌, ℕ, Bool, true, false, List, [], ◌∷◌, Some, None, Result, Ok, Err, ◌==◌, bytes_eq, if◌then◌else◌}
+use Rattle.std.specs.Prelude.{◌≡◌, ℕ, List, [], ◌∷◌, Some, None, Result, Ok, Err, ◌==◌, bytes_eq, if◌then◌else◌}
 use Rattle.gt_disk.specs.Files.{Content as FileContent}
 use Rattle.gt_entry.specs.Reading.{entry_of}
 use Rattle.gt_entry.specs.Spelling.{spelling}
-use Rattle.gt_model.specs.declared.change.Change.{Change}
-use Rattle.gt_model.specs.declared.change.Change.TheVariants.{Create}
 use Rattle.gt_model.specs.declared.entry.Entry.{Entry}
+use Rattle.gt_table.specs.Built.{IsBuilt}
 
 abbrev pub encode : Entry → List ℕ
 encode = spelling
 
--- whether it is of the kind that is made and read yet
-abbrev pub is_creation : Change → Bool
-is_creation (Create pool) = true
-is_creation change = false
-
-abbrev pub IsCreation : Entry → Type 0
-IsCreation e = is_creation e.change ≡ true
-
--- It is of that kind, and is read again from its spelling.
+-- It is of a kind that is built, and is read again from its spelling.
 abbrev pub IsSpelled : Entry → Type 0
-IsSpelled e = IsCreation e × (entry_of (encode e) ≡ Ok e)
+IsSpelled e = IsBuilt e × (entry_of (encode e) ≡ Ok e)
 
 abbrev pub AreSpelled : List Entry → Type 0
 AreSpelled [] = Unit {0}

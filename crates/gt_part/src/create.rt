@@ -25,6 +25,7 @@ pub(crate) fn create<D: Disk>(
     pool: bool,
 ) -> Ended
     ensures step { Step limits.now (state_of book.old) (Event.Create path.now pool) (answer_of result) (state_of book.new) }
+    ensures pins { book.new.live ≡ book.old.live }
     ensures fault { IsTrue (is_faulty (answer_of result)) → Rose (D.fault_count disk.old) (D.fault_count disk.new) }
     ensures later { D.fault_count disk.old ≤ D.fault_count disk.new }
     ensures moves { IsTrue D.tells → Moves limits.now (state_of book.old) (state_of book.new) (D.view disk.old) (D.view disk.new) }
@@ -46,6 +47,7 @@ fn create_settled<D: Disk>(
 ) -> Ended
     requires { book.old.doubt ≡ None }
     ensures acts { Acts limits.now (state_of book.old) (Event.Create path.now pool) (answer_of result) (state_of book.new) }
+    ensures pins { book.new.live ≡ book.old.live }
     ensures fault { IsTrue (is_faulty (answer_of result)) → Rose (D.fault_count disk.old) (D.fault_count disk.new) }
     ensures later { D.fault_count disk.old ≤ D.fault_count disk.new }
     ensures moves { IsTrue D.tells → Moves limits.now (state_of book.old) (state_of book.new) (D.view disk.old) (D.view disk.new) }
@@ -53,7 +55,7 @@ fn create_settled<D: Disk>(
     if book.table.has_repo(path) {
         return Ended::RepositoryExists;
     }
-    let front = book.table.entries.len() as u64;
+    let front = book.table.front();
     if limits.positions <= front {
         return Ended::LogFull;
     }

@@ -2,19 +2,19 @@ ghost use Rattle.std.specs.Prelude.{◌≡◌, ◌≢◌, ◌≤◌, ◌+◌, le
 ghost use Rattle.gt_disk.specs.Files.{Quiet, Rose};
 ghost use Rattle.gt_log.specs.Log.{gate_file, entry_file, content_length};
 ghost use Rattle.gt_log.specs.declared.mount_cause.MountCause.{MountCause};
-ghost use Rattle.gt_model.specs.Contents.{nothing};
+ghost use Rattle.gt_model.specs.Contents.{nothing, fits};
 ghost use Rattle.gt_model.specs.Machine.{content};
 ghost use Rattle.gt_part.specs.Recovery.{recover, read_log, entry_in, fitting};
 ghost use Rattle.gt_part.specs.Mounts.{Loads, Reads, cause_of};
-ghost use Rattle.gt_part.specs.Spelling.{IsCreation};
+ghost use Rattle.gt_table.specs.Built.{is_built, IsBuilt};
 ghost use Rattle.gt_part.specs.declared.unread.Unread.{Unread};
 
 use crate::spelling::decode;
-use crate::table::Table;
 use crate::unread::Unread;
 use gt_disk::{Disk, DiskError, FileId};
 use gt_log::{Log, MountCause};
 use gt_model::{Change, Entry, Limits};
+use gt_table::Table;
 use std::alloc::Global;
 
 const GATE: FileId = FileId { kind: 1, number: 0 };
@@ -32,7 +32,7 @@ pub(crate) fn load<D: Disk>(
     ensures later { (D.view disk.old).clock ≤ (D.view disk.new).clock }
     ensures faults { D.fault_count disk.old ≤ D.fault_count disk.new }
     ensures fault { result ≡ Err MountCause.DeviceFault → Rose (D.fault_count disk.old) (D.fault_count disk.new) }
-    ensures count { IfOk result (λ table. log.now.len ≡ length table.entries.items) }
+    ensures count { IfOk result (λ table. log.now.len ≡ length table.log) }
     ensures loads { IsTrue D.tells → log.now.len ≡ content_length ((D.view disk.old).reads gate_file) → Loads (recover limits.now (D.view disk.old).reads) result }
 {
     let count = log.len();
@@ -56,15 +56,17 @@ fn read_entries<D: Disk>(
     ensures later { (D.view disk.old).clock ≤ (D.view disk.new).clock }
     ensures faults { D.fault_count disk.old ≤ D.fault_count disk.new }
     ensures fault { result ≡ Err MountCause.DeviceFault → Rose (D.fault_count disk.old) (D.fault_count disk.new) }
-    ensures count { IfOk result (λ table. count ≡ length table.entries.items) }
+    ensures count { IfOk result (λ table. count ≡ length table.log) }
     ensures loads { IsTrue D.tells → Loads (read_log (D.view disk.old).reads nothing 1 count) result }
 {
-    let mut table = Table::new(alloc);
+    let Ok(mut table) = Table::new(alloc) else {
+        return Err(MountCause::Memory);
+    };
     for n in 0..count {
         match read_entry(alloc, log, disk, n + 1, &table) {
             Err(unread) => return Err(cause_of(n + 1, unread)),
             Ok(entry) => {
-                if let Err(_) = table.prepare(&entry) {
+                if let Err(_) = table.prepare(alloc, &entry) {
                     return Err(MountCause::Memory);
                 }
                 table.add(entry);
@@ -103,8 +105,10 @@ fn read_entry<D: Disk>(
     ensures later { (D.view disk.old).clock ≤ (D.view disk.new).clock }
     ensures faults { D.fault_count disk.old ≤ D.fault_count disk.new }
     ensures failed { result ≡ Err Unread.Failed → Rose (D.fault_count disk.old) (D.fault_count disk.new) }
-    ensures created { IfOk result IsCreation }
-    ensures entry { IsTrue D.tells → Reads (entry_in ((D.view disk.old).reads (entry_file number)) (content table.now.entries.items) number) result }
+    ensures built { IfOk result IsBuilt }
+    ensures next { IfOk result (λ entry. entry.position ≡ number) }
+    ensures fit { IfOk result (λ entry. IsTrue (fits (content table.now.log) entry)) }
+    ensures entry { IsTrue D.tells → Reads (entry_in ((D.view disk.old).reads (entry_file number)) (content table.now.log) number) result }
 {
     match log.read(alloc, disk, number) {
         Err(DiskError::Failed) => Err(Unread::Failed),
@@ -117,20 +121,27 @@ fn read_entry<D: Disk>(
     }
 }
 
-/// The creation of a repository that isn't there yet.
+/// An entry of a kind that is built, where it fits.
 fn fitting(table: &Table, entry: Entry) -> Result<Entry, Unread>
-    ensures created { IfOk result IsCreation }
+    ensures built { IfOk result IsBuilt }
+    ensures same { IfOk result (λ e. e ≡ entry) }
+    ensures fit { IfOk result (λ e. IsTrue (fits (content table.now.log) e)) }
     ensures read { result ≢ Err Unread.Failed }
-    ensures entry { Reads (fitting (content table.now.entries.items) (Ok entry)) result }
+    ensures entry { Reads (fitting (content table.now.log) (Ok entry)) result }
 {
-    match entry.change {
-        Change::Create { .. } => {
-            if table.fits(&entry) {
-                Ok(entry)
-            } else {
-                Err(Unread::Damaged { at: 0 })
-            }
-        }
-        _ => Err(Unread::Damaged { at: 0 }),
+    if is_built(&entry.change) && table.fits(&entry) {
+        Ok(entry)
+    } else {
+        Err(Unread::Damaged { at: 0 })
     }
+}
+
+/// Whether entries of this kind are made and read yet.
+fn is_built(change: &Change) -> bool
+    ensures { result ≡ is_built change.now }
+{
+    matches!(
+        change,
+        Change::Create { .. } | Change::Delete | Change::Write { .. }
+    )
 }

@@ -1,32 +1,33 @@
 ghost use Rattle.std.specs.Prelude.{◌≡◌, ◌≤◌, ◌++◌, ℕ, [], ◌∷◌, List, length, IsTrue, IfOk, IfErr};
 ghost use Rattle.gt_disk.specs.Files.{Rose, now};
 ghost use Rattle.gt_disk.specs.Moments.{Narrows};
-ghost use Rattle.gt_model.specs.Machine.{State, Step, Settles, is_faulty};
+ghost use Rattle.gt_model.specs.Machine.{State, Settles, is_live};
 ghost use Rattle.gt_model.specs.Histories.{Happening};
 ghost use Rattle.gt_part.specs.Recovery.{recover, IsGood};
 ghost use Rattle.gt_part.specs.Crash.{Holds};
 ghost use Rattle.gt_part.specs.Mounts.{Mounts, HasMountCause};
-ghost use Rattle.gt_part.specs.Shown.{Counts, HasRun, Continues, OneEvent, OneOpening, Records};
+ghost use Rattle.gt_part.specs.Shown.{Counts, HasRun, Continues, OneOpening};
 
 use crate::book::Book;
-use crate::create::create;
+use crate::live::Live;
 use crate::loading::load;
+use crate::pin::Pin;
 use gt_disk::Disk;
 use gt_list::{ListOf, Roomy};
 use gt_log::{Log, MountCause, MountError};
-use gt_model::{Answer, Event, Limits, Refusal, Trail, Turn, Who};
-use gt_name::RepoPath;
+use gt_model::{Limits, Trail};
 use std::alloc::Global;
 use std::marker::Model;
 
-/// A log of entries over its disk, what the log has made, and each event since it was mounted.
+/// A log of entries over its disk, what the log has made, the transactions that read it, and each event since it was
+/// mounted.
 #[derive(Drop)]
 pub struct Partition<D: Disk + Drop> {
-    number: u8,
-    disk: D,
-    limits: Limits,
-    book: Book,
-    trail: Trail,
+    pub(crate) number: u8,
+    pub(crate) disk: D,
+    pub(crate) limits: Limits,
+    pub(crate) book: Book,
+    pub(crate) trail: Trail,
 }
 
 impl<D: Disk + Drop> Model for Partition<D> {
@@ -35,9 +36,10 @@ impl<D: Disk + Drop> Model for Partition<D> {
 
     ghost Value = { Shown D };
 
-    ghost use Rattle.std.specs.Prelude.{◌≤◌};
+    ghost use Rattle.std.specs.Prelude.{◌≤◌, length};
 
-    ghost invariant = { λ p. (1 ≤ p.number) × (p.number ≤ 8) };
+    // Each live transaction has room for the record of its end.
+    ghost invariant = { λ p. (1 ≤ p.number) × (p.number ≤ 8) × (length p.book.live ≤ p.trail.turns.1) };
 
     ghost view = { λ p. record { number = p.number; disk = p.disk; limits = p.limits; state = state_of p.book; trail = p.trail.turns.0 } };
 }
@@ -89,6 +91,7 @@ impl<D: Disk + Drop> Partition<D> {
                     log,
                     table,
                     doubt: None,
+                    live: Live::new(alloc),
                 },
                 trail: Trail {
                     turns: Roomy::new(alloc),
@@ -130,7 +133,7 @@ impl<D: Disk + Drop> Partition<D> {
     pub fn front(&self) -> u64
         ensures { result ≡ length self.now.state.log }
     {
-        self.book.table.entries.len() as u64
+        self.book.table.front()
     }
 
     /// The records of this opening.
@@ -140,53 +143,10 @@ impl<D: Disk + Drop> Partition<D> {
         &self.trail
     }
 
-    /// Makes a repository, or a pool. `RepositoryExists` comes exactly where the content at the front has the path, and then
-    /// `LogFull` exactly at the limit of positions; `DeviceFault` and `Unsure` only of a fault of the disk.
-    pub fn create(&mut self, alloc: Global, who: Who, path: &RepoPath, pool: bool) -> Answer
-        ensures limits { self.new.limits ≡ self.old.limits }
-        ensures step { Step self.old.limits self.old.state (Event.Create path.now pool) result self.new.state }
-        ensures faults { (first : ℕ) → Counts D.fault_count first self.old → Counts D.fault_count first self.new }
-        ensures fault { IsTrue (is_faulty result) → Rose (D.fault_count self.old.disk) (D.fault_count self.new.disk) }
-        ensures later { D.fault_count self.old.disk ≤ D.fault_count self.new.disk }
-        ensures trail { Records who (Event.Create path.now pool) result (D.view self.new.disk).clock self.old self.new }
-        ensures run { IsTrue D.tells → (start : State) (begin : ℕ) (history : List Happening) → HasRun D.view start begin history self.old
-            → Continues D.view start begin history (OneEvent who (Event.Create path.now pool) result (D.view self.new.disk).clock self.new.state) self.old self.new }
+    /// Whether a pin's transaction is live.
+    pub fn holds(&self, pin: &Pin) -> bool
+        ensures { result ≡ is_live self.now.state.pins pin.now }
     {
-        let Ok(path) = path.clone() else {
-            return Err(Refusal::Memory);
-        };
-        self.create_at(alloc, who, path, pool)
-    }
-
-    /// Makes a repository, or a pool, and keeps its record.
-    fn create_at(&mut self, alloc: Global, who: Who, path: RepoPath, pool: bool) -> Answer
-        ensures limits { self.new.limits ≡ self.old.limits }
-        ensures step { Step self.old.limits self.old.state (Event.Create path pool) result self.new.state }
-        ensures faults { (first : ℕ) → Counts D.fault_count first self.old → Counts D.fault_count first self.new }
-        ensures fault { IsTrue (is_faulty result) → Rose (D.fault_count self.old.disk) (D.fault_count self.new.disk) }
-        ensures later { D.fault_count self.old.disk ≤ D.fault_count self.new.disk }
-        ensures trail { Records who (Event.Create path pool) result (D.view self.new.disk).clock self.old self.new }
-        ensures run { IsTrue D.tells → (start : State) (begin : ℕ) (history : List Happening) → HasRun D.view start begin history self.old
-            → Continues D.view start begin history (OneEvent who (Event.Create path pool) result (D.view self.new.disk).clock self.new.state) self.old self.new }
-    {
-        if let Err(_) = self.trail.turns.reserve(1) {
-            return Err(Refusal::Memory);
-        }
-        let ended = create(
-            alloc,
-            &self.limits,
-            &mut self.book,
-            &mut self.disk,
-            &path,
-            pool,
-        );
-        let tick = self.disk.tick();
-        self.trail.turns.add(Turn {
-            who,
-            event: Event::Create { path, pool },
-            answer: ended.answer(),
-            tick,
-        });
-        ended.answer()
+        self.book.live.is_live(pin.number)
     }
 }

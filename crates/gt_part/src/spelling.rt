@@ -5,7 +5,9 @@ ghost use Rattle.gt_log.specs.declared.log_error.LogError.{LogError};
 ghost use Rattle.gt_log.specs.Log.{Stands, AddMoment, AfterAdd, leaves_doubt, HasLogCause};
 ghost use Rattle.gt_part.specs.Mounts.{Reads};
 ghost use Rattle.gt_part.specs.declared.unread.Unread.{Unread};
-ghost use Rattle.gt_part.specs.Spelling.{encode, decode, IsCreation, IsSpelled};
+ghost use Rattle.gt_entry.specs.Fits.{HasSpelling};
+ghost use Rattle.gt_table.specs.Built.{IsBuilt};
+ghost use Rattle.gt_part.specs.Spelling.{encode, decode, IsSpelled};
 
 use crate::unread::Unread;
 use gt_disk::Disk;
@@ -17,6 +19,7 @@ use std::alloc::Global;
 /// The entry at a position that these bytes spell.
 pub(crate) fn decode(alloc: Global, position: u64, bytes: &[u8]) -> Result<Entry, Unread>
     ensures entry { Reads (decode position (Some bytes.now)) result }
+    ensures next { IfOk result (λ entry. entry.position ≡ position) }
     ensures read { result ≢ Err Unread.Failed }
 {
     match decode_entry(alloc, bytes) {
@@ -32,7 +35,7 @@ pub(crate) fn decode(alloc: Global, position: u64, bytes: &[u8]) -> Result<Entry
     }
 }
 
-/// Adds the creation of a repository to the log.
+/// Adds an entry to the log.
 pub(crate) fn add_entry<D: Disk>(
     alloc: Global,
     log: &mut Log,
@@ -41,7 +44,8 @@ pub(crate) fn add_entry<D: Disk>(
 ) -> Result<u64, LogError>
     requires settled { log.old.in_doubt ≡ false }
     requires room { log.old.len < 2 ^ 64 - 1 }
-    requires created { IsCreation entry.now }
+    requires built { IsBuilt entry.now }
+    requires spelling { HasSpelling entry.now }
     ensures spelled { (result ≡ Err LogError.Memory) ⊎ IsSpelled entry.now }
     ensures ok { IfOk result (λ n. (n ≡ log.old.len + 1) × (log.new.len ≡ n)) }
     ensures err { OnErr result (log.new.len ≡ log.old.len) }

@@ -4,9 +4,9 @@ use Rattle.gt_disk.specs.Files.{View}
 use Rattle.gt_model.specs.declared.limits.Limits.{Limits}
 use Rattle.gt_prog.specs.declared.playing.PlayCause.{PlayCause}
 use Rattle.gt_prog.specs.declared.playing.PlayCause.TheVariants.{Write, Device, Damaged as DamagedLater, Memory as NoMemory}
-use Rattle.gt_prog.specs.declared.request.Request.{Request}
+use Rattle.gt_script.specs.declared.request.Request.{Request}
 use Rattle.gt_prog.specs.declared.status.Status.{Status}
-use Rattle.gt_prog.specs.declared.status.Status.TheVariants.{Done, Usage, ReadFault, WriteFault, DiskFault, Damaged, Memory, NotYet}
+use Rattle.gt_prog.specs.declared.status.Status.TheVariants.{Done, Usage, ReadFault, WriteFault, DiskFault, Damaged, Memory, BadInput, NotYet}
 use Rattle.gt_prog.specs.Replay.{ReplayedPart}
 use Rattle.gt_prog.specs.Statuses.{Asks, IsBreak, IsUntouched, IsDone, IsCutShort, IsBroken, WorkEnds, status_of_play}
 
@@ -28,6 +28,7 @@ module _ (tells : Bool) (limits : Limits) (requests : List Request) (old new : V
   either (DiskFault disk) b ends = ends
   either (Damaged disk file at) b ends = ends
   either Memory b ends = ends
+  either (BadInput line at) b ends = absurd b
   either (NotYet line) b ends = absurd b
 
   module _ (input : Option (List ℕ)) (asked : Asks input requests) (status : Status) (ends : WorkEnds tells limits requests old new written out status) where

@@ -1,4 +1,10 @@
 pub mod ScriptSteps
-pub mod Telling
+pub mod SessionNumbers
+pub mod Built
+pub mod Framing
+pub mod Calls
+pub mod Faultless
+pub mod Asking
+pub mod Passes
 pub mod PlaySteps
 pub mod Ends

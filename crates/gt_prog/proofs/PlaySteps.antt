@@ -1,5 +1,5 @@
 -- Lines done one after another, and the whole work.
-use Rattle.std.proofs.Common.{◌≡◌, ⊎_elim, ℕ, ◌+◌, ◌≤◌, ◌<◌, Bool, List, [], ◌∷◌, ◌++◌, map, take, drop, length, get_or, Option, Some, None, Result, Ok, Err, refl, sym, ◌∙◌, ap, subst, arith, append_assoc, take-append-drop, IsTrue}
+use Rattle.std.proofs.Common.{◌≡◌, ⊎_elim, ℕ, zero, suc, ◌+◌, ◌≤◌, ◌<◌, Bool, true, List, [], ◌∷◌, ◌++◌, map, take, drop, length, get_or, Option, Some, None, Result, Ok, Err, refl, sym, ◌∙◌, ap, subst, arith, append_assoc, length-take, take-append-drop, IsTrue}
 use Rattle.std.proofs.lemmas.Bool.{cases_lt}
 use Rattle.std.proofs.lemmas.List.{append-nil, take_more, map-append}
 use Rattle.std.proofs.lemmas.Grind.{flat_map-append}
@@ -7,24 +7,32 @@ use Rattle.std.specs.List.{flat_map}
 use Rattle.gt_disk.specs.declared.file_id.FileId.{FileId}
 use Rattle.gt_disk.specs.Files.{Files, States, View, now, IsImage}
 use Rattle.gt_disk.specs.Moments.{Narrows}
+use Rattle.gt_model.specs.declared.done.Done.{Done}
+use Rattle.gt_model.specs.declared.done.Done.TheVariants.{Restarted}
 use Rattle.gt_model.specs.declared.entry.Entry.{Entry}
 use Rattle.gt_model.specs.declared.limits.Limits.{Limits}
-use Rattle.gt_model.specs.Machine.{State, sure}
+use Rattle.gt_model.specs.declared.refusal.Refusal.{Refusal}
+use Rattle.gt_model.specs.Machine.{State, Settles, sure, free_number}
 use Rattle.gt_model.specs.Histories.{Happening}
 use Rattle.gt_outside.specs.Written.{AppendsAll, AppendsFront}
+use Rattle.gt_part.specs.Called.{Called}
 use Rattle.gt_part.specs.Recovery.{recover, IsGood}
 use Rattle.gt_part.specs.Crash.{Holds}
 use Rattle.gt_part.specs.Mounts.{Mounts}
-use Rattle.gt_part.specs.Shown.{Shown, HasRun, Continues, KeepsPast}
-use Rattle.gt_part.proofs.Histories.{continues, past_same, past_join}
-use Rattle.gt_prog.specs.declared.request.Request.{Request}
-use Rattle.gt_model.specs.declared.done.Done.{Done}
-use Rattle.gt_model.specs.declared.refusal.Refusal.{Refusal}
-use Rattle.gt_prog.specs.Lines.{Line, printed, request_of_line, AreLines}
+use Rattle.gt_part.specs.Shown.{Shown, HasRun, KeepsPast, Continues, OneOpening}
+use Rattle.gt_part.proofs.Histories.{continues, continues_on, past_same, past_join}
+use Rattle.gt_script.specs.declared.form.Form.{Form}
+use Rattle.gt_script.specs.declared.form.Form.TheVariants.{Restart}
+use Rattle.gt_script.specs.declared.request.Request.{Request}
 use Rattle.gt_script.specs.Printed.{printed as printed_answer}
-use Rattle.gt_prog.specs.Played.{Goes, DidOne, Played, PlayedPart, Went}
-use Rattle.gt_prog.specs.Replay.{Worked, Replayed, ReplayedPart}
-use Rattle.gt_prog.proofs.Telling.{lines_join, lines_none}
+use Rattle.gt_session.specs.Sessions.{Session, forgotten}
+use Rattle.gt_session.specs.Courses.{has_course}
+use Rattle.gt_session.specs.Together.{Requests, GiveUp}
+use Rattle.gt_prog.specs.Lines.{Line, Past, Stand, past_of, standing, from_here, new_sessions, printed, numbered, asked_by, Happened, Restarts, Asked, LineBy, IsLine, AreLines, IsEnd}
+use Rattle.gt_prog.specs.Played.{Goes, DidOne, IsWhole, Played, PlayedWhole, PlayedPart, Went}
+use Rattle.gt_prog.specs.Replay.{IsOpened, Worked, WorkedPart, Replayed, ReplayedPart}
+use Rattle.gt_prog.proofs.Framing.{lines_over, end_over, lines_then, course_line}
+use Rattle.gt_prog.proofs.Calls.{told_as, requests_went, give_up_went}
 
 -- ---- bytes
 
@@ -41,39 +49,70 @@ appends_nil (Some x) = sym (append-nil x)
 front_nil : (u : Option (List ℕ)) → AppendsFront u u []
 front_nil u = record { front = []; back = []; split = refl; grown = appends_nil u }
 
-module _ {D : Type 0} (tells : Bool) (view : D → View) where
+-- ---- numbers of lines
+
+numbered-push : (number : ℕ) (rs : List Request) (r : Request) → numbered number (rs ++ r ∷ []) ≡ numbered number rs ++ (number + length rs, r) ∷ []
+numbered-push number [] r = ap (λ (n : ℕ). let l : List (ℕ × Request) = (n, r) ∷ [] in l) (let same : number ≡ number + 0 = omega arith in same)
+numbered-push number (x ∷ rs) r =
+    ap (λ (l : List (ℕ × Request)). (number, x) ∷ l)
+    (numbered-push (number + 1) rs r ∙ ap (λ (n : ℕ). numbered (number + 1) rs ++ (n, r) ∷ []) (let same : (number + 1) + length rs ≡ number + length (x ∷ rs) = omega arith in same))
+
+take-numbered : (k number : ℕ) (rs : List Request) → take k (numbered number rs) ≡ numbered number (take k rs)
+take-numbered zero number rs = refl
+take-numbered (suc k) number [] = refl
+take-numbered (suc k) number (r ∷ rs) = ap (λ (l : List (ℕ × Request)). (number, r) ∷ l) (take-numbered k (number + 1) rs)
+
+-- one line more that is told, where all are
+line_more : (limits : Limits) (line : Line) (old new : Stand) → IsLine limits line old new → AreLines limits (line ∷ []) old new
+line_more limits line old new is = (new, is, refl)
+
+module _ {D : Type 0} (tells : Bool) (view : D → View) (limits : Limits) where
   -- ---- one after the other
 
-  pub goes_none : (p : Shown D) → Goes tells view p p []
-  goes_none p told start begin history run = continues view start begin history (AreLines []) [] p p refl lines_none (past_same (view p.disk)) run
+  pub goes_none : (ss : List Session) (p : Shown D) → Goes tells view limits [] ss ss p p
+  goes_none ss p told start begin history run = continues view start begin history (λ later. AreLines limits [] (from_here ss p.state) (standing ss (past_of p.state later))) [] p p refl refl (past_same (view p.disk)) run
 
-  pub goes_then : (o p q : Shown D) (one two : List Line) → Goes tells view o p one → Goes tells view p q two → Goes tells view o q (one ++ two)
-  goes_then o p q one two first then told start begin history run =
-      let c = first told start begin history run in
-      let d = then told start begin (c.later ++ history) c.run in
-      let is : d.later ++ (c.later ++ history) ≡ (d.later ++ c.later) ++ history = sym (append_assoc d.later c.later history) in
-      record {
-        later = d.later ++ c.later;
-        past = past_join (view o.disk) (view p.disk) (view q.disk) c.past d.past;
-        limits = d.limits ∙ c.limits;
-        this = lines_join one two c.later d.later c.this d.this;
-        run = subst (λ (h : List Happening). HasRun view start begin h q) is d.run;
-        holds = subst (λ (l : Limits). Holds l start begin ((d.later ++ c.later) ++ history) (view q.disk)) c.limits (subst (λ (h : List Happening). Holds p.limits start begin h (view q.disk)) is d.holds);
-        good = subst (λ (l : Limits). IsGood l (now (view q.disk))) c.limits d.good;
-      }
+  pub goes_then : (first mid last : List Session) (o p q : Shown D) (one two : List Line) → Goes tells view limits one first mid o p → Goes tells view limits two mid last p q → Goes tells view limits (one ++ two) first last o q
+  goes_then first mid last o p q one two before after told start begin history run =
+      continues_on view start begin history (λ later. AreLines limits one (from_here first o.state) (standing mid (past_of p.state later))) (λ later. AreLines limits two (from_here mid p.state) (standing last (past_of q.state later)))
+      (λ later. AreLines limits (one ++ two) (from_here first o.state) (standing last (past_of q.state later))) o p q (before told start begin history run) (λ older run'. after told start begin older run')
+      (λ a b did more. lines_then limits one two (from_here first o.state) (standing mid (past_of p.state a)) (standing last (past_of q.state (b ++ a))) did (lines_over limits a two (from_here mid p.state) (standing last (past_of q.state b)) more))
 
-  pub went_of : (o p : Shown D) (lines : List Line) → Goes tells view o p lines → IsTrue tells → (start : State) (begin : ℕ) (history : List Happening) → HasRun view start begin history o → Went view start begin history o (view p.disk) lines
-  went_of o p lines goes told start begin history run = let c = goes told start begin history run in record { later = c.later; this = c.this; past = c.past; holds = c.holds }
+  -- ---- one line
+
+  -- a session asks
+  pub goes_asked : (fault_count : D → ℕ) (line : Line) (first last : List Session) (o p : Shown D) → o.limits ≡ limits → has_course line.request.form ≡ true
+      → Requests (Called tells view fault_count) (free_number o.state.pins) line.number line.request.session line.request.form line.answer first last o p → Goes tells view limits (line ∷ []) first last o p
+  goes_asked fault_count line first last o p kept course h told start begin history run =
+      told_as tells view fault_count limits told start begin history (λ later. Asked limits line (from_here first o.state) (standing last (past_of p.state later))) (λ later. AreLines limits (line ∷ []) (from_here first o.state) (standing last (past_of p.state later))) o p
+      (requests_went tells view fault_count limits told start begin history o p kept run (free_number o.state.pins) line.number line.request.session line.request.form line.answer first last h)
+      (λ later is. line_more limits line (from_here first o.state) (standing last (past_of p.state later)) (course_line limits line.request.form line (from_here first o.state) (standing last (past_of p.state later)) course is))
+
+  -- everything is mounted again
+  pub goes_restarted : (fault_count : D → ℕ) (line : Line) (first last : List Session) (o p : Shown D) → line.request.form ≡ Restart → line.answer ≡ Ok Restarted → last ≡ map forgotten first
+      → (IsTrue tells → (start : State) (begin : ℕ) (history : List Happening) → HasRun view start begin history o → Settles o.state p.state)
+      → (IsTrue tells → (start : State) (begin : ℕ) (history : List Happening) → HasRun view start begin history o → Continues view start begin history (OneOpening (view p.disk).clock p.state) o p) → Goes tells view limits (line ∷ []) first last o p
+  goes_restarted fault_count line first last o p form answer forgets settles goes told start begin history run =
+      told_as tells view fault_count limits told start begin history (OneOpening (view p.disk).clock p.state) (λ later. AreLines limits (line ∷ []) (from_here first o.state) (standing last (past_of p.state later))) o p (goes told start begin history run)
+      (λ later is.
+      let r : Restarts line (from_here first o.state) (standing last (past_of p.state later)) = record { answer = answer; sessions = forgets; settles = settles told start begin history run; tick = (view p.disk).clock; happened = is } in
+      line_more limits line (from_here first o.state) (standing last (past_of p.state later)) (subst (λ (f : Form). LineBy limits f line (from_here first o.state) (standing last (past_of p.state later))) (sym form) r))
+
+module _ {D : Type 0} (tells : Bool) (view : D → View) where
+  -- ---- what the lines made, on the disk
+
+  pub went_of : (last : List Session) (o p : Shown D) (lines : List Line) → Goes tells view o.limits lines new_sessions last o p → IsTrue tells → (start : State) (begin : ℕ) (history : List Happening) → HasRun view start begin history o → Went view start begin history o (view p.disk) lines
+  went_of last o p lines goes told start begin history run = let c = goes told start begin history run in record { stand = standing last (past_of p.state c.later); did = c.this; past = c.past; holds = c.holds }
 
   -- the disk went on by itself
-  went_on : (o p : Shown D) (end : View) (lines : List Line) → Goes tells view o p lines → (IsTrue tells → KeepsPast (view p.disk) end)
+  went_on : (last : List Session) (o p : Shown D) (end : View) (lines : List Line) → Goes tells view o.limits lines new_sessions last o p → (IsTrue tells → KeepsPast (view p.disk) end)
       → (IsTrue tells → (start : State) (begin : ℕ) (history : List Happening) → HasRun view start begin history p → Holds p.limits start begin history end)
       → IsTrue tells → (start : State) (begin : ℕ) (history : List Happening) → HasRun view start begin history o → Went view start begin history o end lines
-  went_on o p end lines goes past holds told start begin history run =
+  went_on last o p end lines goes past holds told start begin history run =
       let c = goes told start begin history run in
       record {
-        later = c.later;
-        this = c.this;
+        stand = standing last (past_of p.state c.later);
+        did = c.this;
         past = past_join (view o.disk) (view p.disk) end c.past (past told);
         holds = subst (λ (l : Limits). Holds l start begin (c.later ++ history) end) c.limits (holds told start begin (c.later ++ history) c.run);
       }
@@ -84,55 +123,100 @@ module _ {D : Type 0} (tells : Bool) (view : D → View) where
     next_taken : take (i + 1) requests ≡ take i requests ++ request ∷ []
     next_taken = take_more requests i request lt ∙ ap (λ (r : Request). take i requests ++ r ∷ []) (sym is)
 
-    pub played_more : (p q : Shown D) (reply : Result Done Refusal) (w u v : Option (List ℕ)) → Played tells view (take i requests) o p w u → DidOne tells view request reply p q → AppendsAll u v (printed_answer reply) → Played tells view (take (i + 1) requests) o q w v
-    played_more p q reply w u v done one bytes = record {
-      lines = done.lines ++ one.line ∷ [];
-      asked = map-append request_of_line done.lines (one.line ∷ []) ∙ ap (λ (l : List Request). l ++ request_of_line one.line ∷ []) done.asked ∙ ap (λ (r : Request). take i requests ++ r ∷ []) one.asked ∙ sym next_taken;
-      bytes =
-          let text : flat_map printed (done.lines ++ one.line ∷ []) ≡ flat_map printed done.lines ++ printed_answer reply =
-          flat_map-append printed done.lines (one.line ∷ []) ∙ ap (λ (l : List ℕ). flat_map printed done.lines ++ l) (append-nil (printed one.line) ∙ one.prints) in
-          let P : List ℕ → Type 0 = λ l. AppendsAll w v l in subst P (sym text) (appends_then w u v (flat_map printed done.lines) (printed_answer reply) done.bytes bytes);
-      goes = goes_then o p q done.lines (one.line ∷ []) done.goes one.goes;
-    }
+    next_numbered : (number : ℕ) → number ≡ i + 1 → numbered 1 (take i requests) ++ (number, request) ∷ [] ≡ numbered 1 (take (i + 1) requests)
+    next_numbered number is =
+        let same : number ≡ 1 + length (take i requests) = omega (arith, is, lt, length-take i requests) in
+        ap (λ (n : ℕ). numbered 1 (take i requests) ++ (n, request) ∷ []) same ∙ sym (ap (λ (rs : List Request). numbered 1 rs) next_taken ∙ numbered-push 1 (take i requests) request)
 
-    -- it was done, and its answer isn't written whole
-    pub part_written : (p q : Shown D) (reply : Result Done Refusal) (w u v : Option (List ℕ)) (d : D) → d ≡ q.disk → Played tells view (take i requests) o p w u → DidOne tells view request reply p q → AppendsFront u v (printed_answer reply)
-        → PlayedPart tells view requests o (view d) w v
-    part_written p q reply w u v d same done one front = record {
-      whole = done.lines;
-      part = one.line ∷ [];
-      at_most_one = omega arith;
-      rest = drop (i + 1) requests;
-      asked = sym (take-append-drop (i + 1) requests)
-          ∙ ap (λ (l : List Request). l ++ drop (i + 1) requests) (next_taken ∙ sym (map-append request_of_line done.lines (one.line ∷ []) ∙ ap (λ (l : List Request). l ++ request_of_line one.line ∷ []) done.asked ∙ ap (λ (r : Request). take i requests ++ r ∷ []) one.asked));
-      between = u;
-      bytes = done.bytes;
-      front = let P : List ℕ → Type 0 = λ l. AppendsFront u v l in subst P (sym (append-nil (printed one.line) ∙ one.prints)) front;
-      went = subst (λ (x : D). IsTrue tells → (start : State) (begin : ℕ) (history : List Happening) → HasRun view start begin history o → Went view start begin history o (view x) (done.lines ++ one.line ∷ [])) (sym same)
-          (went_of o q (done.lines ++ one.line ∷ []) (goes_then o p q done.lines (one.line ∷ []) done.goes one.goes));
-    }
+    asked_more : (lines : List Line) (line : Line) (number : ℕ) → number ≡ i + 1 → map asked_by lines ≡ numbered 1 (take i requests) → asked_by line ≡ (number, request) → map asked_by (lines ++ line ∷ []) ≡ numbered 1 (take (i + 1) requests)
+    asked_more lines line number number_is before this =
+        map-append asked_by lines (line ∷ []) ∙ ap (λ (l : List (ℕ × Request)). l ++ asked_by line ∷ []) before ∙ ap (λ (r : ℕ × Request). numbered 1 (take i requests) ++ r ∷ []) this ∙ next_numbered number number_is
+
+    -- the first of the requests, and the rest
+    asked_part : (k : ℕ) (lines : List Line) → map asked_by lines ≡ numbered 1 (take k requests) → numbered 1 requests ≡ map asked_by lines ++ drop k (numbered 1 requests)
+    asked_part k lines asked = sym (take-append-drop k (numbered 1 requests)) ∙ ap (λ (l : List (ℕ × Request)). l ++ drop k (numbered 1 requests)) (take-numbered k 1 requests ∙ sym asked)
+
+    module _ (number : ℕ) (number_is : number ≡ i + 1) (mid last : List Session) (p q : Shown D) (kept : p.limits ≡ o.limits) (reply : Result Done Refusal) (w u v : Option (List ℕ)) (done : Played tells view (take i requests) mid o p w u)
+        (one : DidOne tells view p.limits number request reply mid last p q) where
+      abbrev line : Line
+      line = record { number = number; request = request; answer = reply }
+
+      all_go : Goes tells view o.limits (done.lines ++ line ∷ []) new_sessions last o q
+      all_go = goes_then tells view o.limits new_sessions mid last o p q done.lines (line ∷ []) done.goes (subst (λ (l : Limits). DidOne tells view l number request reply mid last p q) kept one)
+
+      pub played_more : AppendsAll u v (printed_answer reply) → Played tells view (take (i + 1) requests) last o q w v
+      played_more bytes = record {
+        lines = done.lines ++ line ∷ [];
+        asked = asked_more done.lines line number number_is done.asked refl;
+        bytes =
+            let text : flat_map printed (done.lines ++ line ∷ []) ≡ flat_map printed done.lines ++ printed_answer reply =
+            flat_map-append printed done.lines (line ∷ []) ∙ ap (λ (l : List ℕ). flat_map printed done.lines ++ l) (append-nil (printed_answer reply)) in
+            let P : List ℕ → Type 0 = λ l. AppendsAll w v l in subst P (sym text) (appends_then w u v (flat_map printed done.lines) (printed_answer reply) done.bytes bytes);
+        goes = all_go;
+      }
+
+      -- it was done, and its answer isn't written whole
+      pub part_written : (d : D) → d ≡ q.disk → AppendsFront u v (printed_answer reply) → PlayedPart tells view requests o (view d) w v
+      part_written d same front = record {
+        whole = done.lines;
+        part = line ∷ [];
+        at_most_one = omega arith;
+        rest = drop (i + 1) (numbered 1 requests);
+        asked = asked_part (i + 1) (done.lines ++ line ∷ []) (asked_more done.lines line number number_is done.asked refl);
+        between = u;
+        bytes = done.bytes;
+        front = let P : List ℕ → Type 0 = λ l. AppendsFront u v l in subst P (sym (append-nil (printed_answer reply))) front;
+        went = subst (λ (x : D). IsTrue tells → (start : State) (begin : ℕ) (history : List Happening) → HasRun view start begin history o → Went view start begin history o (view x) (done.lines ++ line ∷ [])) (sym same) (went_of last o q (done.lines ++ line ∷ []) all_go);
+      }
 
     -- it wasn't done: the disk couldn't be opened anew
-    pub part_closed : (p : Shown D) (w u : Option (List ℕ)) (d e : D) → d ≡ e → Played tells view (take i requests) o p w u → (IsTrue tells → KeepsPast (view p.disk) (view e))
+    pub part_closed : (mid : List Session) (p : Shown D) (w u : Option (List ℕ)) (d e : D) → d ≡ e → Played tells view (take i requests) mid o p w u → (IsTrue tells → KeepsPast (view p.disk) (view e))
         → (IsTrue tells → (start : State) (begin : ℕ) (history : List Happening) → HasRun view start begin history p → Holds p.limits start begin history (view e)) → PlayedPart tells view requests o (view d) w u
-    part_closed p w u d e same done past holds = record {
+    part_closed mid p w u d e same done past holds = record {
       whole = done.lines;
       part = [];
       at_most_one = omega arith;
-      rest = drop i requests;
-      asked = sym (take-append-drop i requests) ∙ ap (λ (l : List Request). l ++ drop i requests) (sym (ap (map request_of_line) (append-nil done.lines) ∙ done.asked));
+      rest = drop i (numbered 1 requests);
+      asked = asked_part i (done.lines ++ []) (ap (map asked_by) (append-nil done.lines) ∙ done.asked);
       between = u;
       bytes = done.bytes;
       front = front_nil u;
       went = subst (λ (x : D). IsTrue tells → (start : State) (begin : ℕ) (history : List Happening) → HasRun view start begin history o → Went view start begin history o (view x) (done.lines ++ [])) (sym same)
-          (subst (λ (l : List Line). IsTrue tells → (start : State) (begin : ℕ) (history : List Happening) → HasRun view start begin history o → Went view start begin history o (view e) l) (sym (append-nil done.lines)) (went_on o p (view e) done.lines done.goes past holds));
+          (subst (λ (l : List Line). IsTrue tells → (start : State) (begin : ℕ) (history : List Happening) → HasRun view start begin history o → Went view start begin history o (view e) l) (sym (append-nil done.lines)) (went_on mid o p (view e) done.lines done.goes past holds));
     }
 
-  pub played_none : (p : Shown D) (requests : List Request) (w : Option (List ℕ)) → Played tells view (take 0 requests) p p w w
-  played_none p requests w = record { lines = []; asked = refl; bytes = appends_nil w; goes = goes_none p }
+  pub played_none : (ss : List Session) (p : Shown D) (requests : List Request) (w : Option (List ℕ)) → ss ≡ new_sessions → Played tells view (take 0 requests) ss p p w w
+  played_none ss p requests w new = record { lines = []; asked = refl; bytes = appends_nil w; goes = subst (λ (l : List Session). Goes tells view p.limits [] new_sessions l p p) (sym new) (goes_none tells view p.limits new_sessions p) }
 
-  pub played_all : (p q : Shown D) (requests : List Request) (n : ℕ) (w v : Option (List ℕ)) → take n requests ≡ requests → Played tells view (take n requests) p q w v → Played tells view requests p q w v
-  played_all p q requests n w v all played = subst (λ (l : List Request). Played tells view l p q w v) all played
+  pub played_all : (ss : List Session) (p q : Shown D) (requests : List Request) (n : ℕ) (w v : Option (List ℕ)) → take n requests ≡ requests → Played tells view (take n requests) ss p q w v → Played tells view requests ss p q w v
+  played_all ss p q requests n w v all played = subst (λ (l : List Request). Played tells view l ss p q w v) all played
+
+  -- nothing was done
+  pub part_none : (p : Shown D) (requests : List Request) (w : Option (List ℕ)) (d : D) → d ≡ p.disk → PlayedPart tells view requests p (view d) w w
+  part_none p requests w d same = record {
+    whole = [];
+    part = [];
+    at_most_one = omega arith;
+    rest = numbered 1 requests;
+    asked = refl;
+    between = w;
+    bytes = appends_nil w;
+    front = front_nil w;
+    went = subst (λ (x : D). IsTrue tells → (start : State) (begin : ℕ) (history : List Happening) → HasRun view start begin history p → Went view start begin history p (view x) []) (sym same) (went_of new_sessions p p [] (goes_none tells view p.limits new_sessions p));
+  }
+
+  -- each session gave up what it had open, at the end of the input
+  pub played_whole : (fault_count : D → ℕ) (ss : List Session) (o p q : Shown D) (requests : List Request) (w v : Option (List ℕ)) → Played tells view requests ss o p w v → GiveUp (Called tells view fault_count) ss p q → PlayedWhole tells view requests o q w v
+  played_whole fault_count ss o p q requests w v played ends = record {
+    lines = played.lines;
+    asked = played.asked;
+    bytes = played.bytes;
+    goes = λ told start begin history run.
+        let c = played.goes told start begin history run in
+        continues_on view start begin history (λ later. AreLines o.limits played.lines (from_here new_sessions o.state) (standing ss (past_of p.state later))) (λ later. GiveUp (Happened o.limits) ss (past_of p.state []) (past_of q.state later))
+        (IsWhole o.limits played.lines o.state q.state) o p q c (λ older run'. give_up_went tells view fault_count o.limits told start begin ss older p q c.limits run' ends)
+        (λ a b did more. record { stand = standing ss (past_of p.state a); did = did; ends = end_over o.limits a (standing ss (past_of p.state [])) (past_of q.state b) more });
+  }
 
 -- the same damage under the same limits
 pub damage_kept : {D : Type 0} (view : D → View) (old new : Shown D) (d e : D) (file : FileId) (at : ℕ) → new.limits ≡ old.limits → d ≡ e → recover new.limits (view e).reads ≡ Err (file, at) → recover old.limits (view d).reads ≡ Err (file, at)
@@ -148,31 +232,46 @@ opening_moments old mid new narrows past m ge le image is =
     (λ not. let same : m ≡ old.clock = omega (arith, not, ge) in subst (λ (s : States). IsImage s image) (ap (λ (k : ℕ). mid.at k) same ∙ narrows.past old.clock (omega arith)) here)
     (cases_lt old.clock m)
 
-pub worked : {D : Type 0} (view : D → View) (limits : Limits) (old : View) (p : Shown D) (end : View) (lines : List Line) (log : List Entry) → recover limits old.reads ≡ Ok log → p.state ≡ sure log → p.limits ≡ limits → Narrows old (view p.disk)
-    → Went view p.state (view p.disk).clock [] p end lines → Worked limits old end lines
-worked view limits old p end lines log recovers state_is limits_is narrows went =
-    let begin = (view p.disk).clock in
-    let all : went.later ++ [] ≡ went.later = append-nil went.later in
-    record {
-      start = log;
-      opens = recovers;
-      begin = begin;
-      later = narrows.later;
-      opening = opening_moments old (view p.disk) end narrows went.past;
-      history = went.later;
-      tells = went.this;
-      holds = subst (λ (h : List Happening). Holds limits (sure log) begin h end) all
-          (subst (λ (s : State). Holds limits s begin (went.later ++ []) end) state_is (subst (λ (l : Limits). Holds l p.state begin (went.later ++ []) end) limits_is went.holds));
-    }
+is_opened : (limits : Limits) (old mid end : View) (log : List Entry) → recover limits old.reads ≡ Ok log → Narrows old mid → KeepsPast mid end → IsOpened limits old end log mid.clock
+is_opened limits old mid end log recovers narrows past = record { opens = recovers; later = narrows.later; moments = opening_moments old mid end narrows past }
 
--- the same history, told otherwise
-pub told_as : {D : Type 0} (view : D → View) (start : State) (begin : ℕ) (history : List Happening) (P Q : List Happening → Type 0) (old new : Shown D) → Continues view start begin history P old new → ((later : List Happening) → P later → Q later) → Continues view start begin history Q old new
-told_as view start begin history P Q old new c f = record { later = c.later; past = c.past; limits = c.limits; this = f c.later c.this; run = c.run; holds = c.holds; good = c.good }
+holds_as : {D : Type 0} (view : D → View) (limits : Limits) (p : Shown D) (end : View) (happened : List Happening) (log : List Entry) → p.state ≡ sure log → p.limits ≡ limits → Holds p.limits p.state (view p.disk).clock (happened ++ []) end
+    → Holds limits (sure log) (view p.disk).clock happened end
+holds_as view limits p end happened log state_is limits_is holds =
+    let begin = (view p.disk).clock in
+    subst (λ (h : List Happening). Holds limits (sure log) begin h end) (append-nil happened)
+    (subst (λ (s : State). Holds limits s begin (happened ++ []) end) state_is (subst (λ (l : Limits). Holds l p.state begin (happened ++ []) end) limits_is holds))
+
+module _ {D : Type 0} (view : D → View) (limits : Limits) (old : View) (p : Shown D) (lines : List Line) (log : List Entry) (recovers : recover limits old.reads ≡ Ok log) (state_is : p.state ≡ sure log) (limits_is : p.limits ≡ limits) (narrows : Narrows old (view p.disk)) where
+  lines_as : (stand : Stand) → AreLines p.limits lines (from_here new_sessions p.state) stand → AreLines limits lines (from_here new_sessions (sure log)) stand
+  lines_as stand did = subst (λ (s : State). AreLines limits lines (from_here new_sessions s) stand) state_is (subst (λ (l : Limits). AreLines l lines (from_here new_sessions p.state) stand) limits_is did)
+
+  pub worked : (q : Shown D) → Continues view p.state (view p.disk).clock [] (IsWhole p.limits lines p.state q.state) p q → Worked limits old (view q.disk) lines
+  worked q c = record {
+    start = log;
+    begin = (view p.disk).clock;
+    opening = is_opened limits old (view p.disk) (view q.disk) log recovers narrows c.past;
+    stand = c.this.stand;
+    did = lines_as c.this.stand c.this.did;
+    end = past_of q.state c.later;
+    ends = subst (λ (l : Limits). IsEnd l c.this.stand (past_of q.state c.later)) limits_is c.this.ends;
+    holds = holds_as view limits p (view q.disk) c.later log state_is limits_is c.holds;
+  }
+
+  pub worked_part : (end : View) → Went view p.state (view p.disk).clock [] p end lines → WorkedPart limits old end lines
+  worked_part end went = record {
+    start = log;
+    begin = (view p.disk).clock;
+    opening = is_opened limits old (view p.disk) end log recovers narrows went.past;
+    stand = went.stand;
+    did = lines_as went.stand went.did;
+    holds = holds_as view limits p end went.stand.past.happened log state_is limits_is went.holds;
+  }
 
 -- what a run over a mounted disk says of the disk as it was
 module _ {D : Type 0} (tells : Bool) (view : D → View) (limits : Limits) (requests : List Request) (old : View) (p : Shown D) (mounts : IsTrue tells → Mounts (recover limits old.reads) (Ok p)) (kept : p.limits ≡ limits)
     (narrows : IsTrue tells → Narrows old (view p.disk)) (run : IsTrue tells → IsGood limits (now old) → HasRun view p.state (view p.disk).clock [] p) where
-  pub replayed : (q : Shown D) (d : D) (w v : Option (List ℕ)) → d ≡ q.disk → Played tells view requests p q w v → Replayed tells limits requests old (view d) w v
+  pub replayed : (q : Shown D) (d : D) (w v : Option (List ℕ)) → d ≡ q.disk → PlayedWhole tells view requests p q w v → Replayed tells limits requests old (view d) w v
   replayed q d w v same played = record {
     lines = played.lines;
     asked = played.asked;
@@ -180,11 +279,9 @@ module _ {D : Type 0} (tells : Bool) (view : D → View) (limits : Limits) (requ
     opens = λ told. ((mounts told).0, (mounts told).1);
     worked = λ told good.
         let m = mounts told in
-        let begun = run told good in
-        let c = played.goes told p.state (view p.disk).clock [] begun in
-        let went = went_of tells view p q played.lines played.goes told p.state (view p.disk).clock [] begun in
+        let c = played.goes told p.state (view p.disk).clock [] (run told good) in
         let here : Worked limits old (view q.disk) played.lines × IsGood limits (now (view q.disk)) = (
-          worked view limits old p (view q.disk) played.lines m.0 m.1 m.2 kept (narrows told) went,
+          worked view limits old p played.lines m.0 m.1 m.2 kept (narrows told) q c,
           subst (λ (l : Limits). IsGood l (now (view q.disk))) kept c.good,
         ) in
         subst (λ (x : D). Worked limits old (view x) played.lines × IsGood limits (now (view x))) (sym same) here;
@@ -203,6 +300,5 @@ module _ {D : Type 0} (tells : Bool) (view : D → View) (limits : Limits) (requ
     opens = λ told. ((mounts told).0, (mounts told).1);
     worked = λ told good.
         let m = mounts told in
-        let begun = run told good in
-        worked view limits old p end (played.whole ++ played.part) m.0 m.1 m.2 kept (narrows told) (played.went told p.state (view p.disk).clock [] begun);
+        worked_part view limits old p (played.whole ++ played.part) m.0 m.1 m.2 kept (narrows told) end (played.went told p.state (view p.disk).clock [] (run told good));
   }

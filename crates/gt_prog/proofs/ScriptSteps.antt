@@ -1,112 +1,98 @@
--- Reading a script, byte by byte.
-use Rattle.std.proofs.Common.{◌≡◌, ℕ, ◌+◌, ◌-◌, ◌<◌, ◌≤◌, Bool, true, false, cond, eqb, List, [], ◌∷◌, ◌++◌, length, take, drop, get_or, Some, None, Option, Result, Ok, Err, refl, sym, ap, ◌∙◌, subst, arith, append_assoc, length-drop, length-take}
-use Rattle.std.proofs.lemmas.List.{take_more, at_drop_more, at_drop_all, get_or-drop, append-nil}
-use Rattle.std.proofs.lemmas.Bool.Decides.{nat_tests}
-use Rattle.gt_prog.specs.declared.request.Request.{Request}
-use Rattle.gt_prog.specs.Parses.{IsPushed}
-use Rattle.gt_prog.specs.Script.{in_front, and_then, at_end, request_of, requests_from}
+-- Reading a script, line by line.
+use Rattle.std.proofs.Common.{◌≡◌, ℕ, ◌+◌, ◌-◌, ◌<◌, ◌≤◌, suc, eqb, Bool, true, false, cond, List, [], ◌∷◌, ◌++◌, length, take, drop, Some, None, Result, Ok, Err, refl, sym, ap, ◌∙◌, arith, append_assoc}
+use Rattle.std.proofs.lemmas.List.{append-nil, take_all, drop_all}
+use Rattle.std.proofs.lemmas.Iterator.Adapters.{position_from-zero}
+use Rattle.std.specs.List.{position, position_from}
+use Rattle.gt_script.specs.declared.request.Request.{Request}
+use Rattle.gt_script.specs.Grammar.{request_of}
+use Rattle.gt_prog.specs.declared.script.ScriptError.{ScriptError}
+use Rattle.gt_prog.specs.declared.script.ScriptError.TheVariants.{BadInput, NotYet, Memory}
+use Rattle.gt_prog.specs.Script.{rest_of, lines_from, lines_of, in_front, and_then, requests_of}
+use Rattle.gt_prog.specs.Parses.{IsPushed, IsBad, IsBadLine}
 
-in_front-none : (r : Result (List Request) ℕ) → in_front [] r ≡ r
-in_front-none (Ok rs) = refl
-in_front-none (Err e) = refl
+-- ---- the first line
 
-in_front-more : (front : List Request) (r : Request) (rest : Result (List Request) ℕ) → in_front front (in_front (r ∷ []) rest) ≡ in_front (front ++ r ∷ []) rest
+abbrev pub is_feed : ℕ → Bool
+is_feed b = eqb b 10
+
+-- The first line ends behind the line feed of this index, where the bytes begin at an index.
+record Cut (line bytes : List ℕ) (begin at : ℕ) : Type 0 where
+  ge : begin ≤ at
+  lines : lines_from line bytes ≡ (line ++ take (at - begin + 1) bytes) ∷ lines_of (drop (at - begin + 1) bytes)
+
+cut : (line bytes : List ℕ) (begin at : ℕ) → position_from is_feed begin bytes ≡ Some at → Cut line bytes begin at
+cut line [] begin at is = absurd (cc)
+cut line (b ∷ bytes) begin at is = by (is_feed b) refl is (cut (line ++ b ∷ []) bytes (begin + 1) at)
+  where
+    by : (t : Bool) → is_feed b ≡ t → cond t (Some begin) (position_from is_feed (begin + 1) bytes) ≡ Some at → (position_from is_feed (begin + 1) bytes ≡ Some at → Cut (line ++ b ∷ []) bytes (begin + 1) at) → Cut line (b ∷ bytes) begin at
+    by true test is more =
+        let here : begin ≡ at = cc in
+        let one : 1 ≡ at - begin + 1 = omega (arith, here) in
+        record {
+          ge = omega (arith, here);
+          lines = ap (λ (t : Bool). cond t ((line ++ b ∷ []) ∷ lines_from [] bytes) (lines_from (line ++ b ∷ []) bytes)) test ∙ ap (λ (n : ℕ). (line ++ take n (b ∷ bytes)) ∷ lines_of (drop n (b ∷ bytes))) one;
+        }
+    by false test is more =
+        let c = more is in
+        let next : suc (at - (begin + 1) + 1) ≡ at - begin + 1 = omega (arith, c.ge) in
+        record {
+          ge = omega (arith, c.ge);
+          lines = ap (λ (t : Bool). cond t ((line ++ b ∷ []) ∷ lines_from [] bytes) (lines_from (line ++ b ∷ []) bytes)) test
+              ∙ c.lines
+              ∙ ap (λ (l : List ℕ). l ∷ lines_of (drop (at - (begin + 1) + 1) bytes)) (append_assoc line (b ∷ []) (take (at - (begin + 1) + 1) bytes))
+              ∙ ap (λ (n : ℕ). (line ++ take n (b ∷ bytes)) ∷ lines_of (drop n (b ∷ bytes))) next;
+        }
+
+uncut : (line bytes : List ℕ) (begin : ℕ) → position_from is_feed begin bytes ≡ None → lines_from line bytes ≡ rest_of (line ++ bytes)
+uncut line [] begin is = ap rest_of (sym (append-nil line))
+uncut line (b ∷ bytes) begin is = by (is_feed b) refl is (uncut (line ++ b ∷ []) bytes (begin + 1))
+  where
+    by : (t : Bool) → is_feed b ≡ t → cond t (Some begin) (position_from is_feed (begin + 1) bytes) ≡ None → (position_from is_feed (begin + 1) bytes ≡ None → lines_from (line ++ b ∷ []) bytes ≡ rest_of ((line ++ b ∷ []) ++ bytes)) → lines_from line (b ∷ bytes) ≡ rest_of (line ++ b ∷ bytes)
+    by true test is more = absurd (cc)
+    by false test is more = ap (λ (t : Bool). cond t ((line ++ b ∷ []) ∷ lines_from [] bytes) (lines_from (line ++ b ∷ []) bytes)) test ∙ more is ∙ ap rest_of (append_assoc line (b ∷ []) bytes)
+
+rest_of-some : (line : List ℕ) → 0 < length line → rest_of line ≡ line ∷ []
+rest_of-some [] lt = absurd (omega (arith, lt))
+rest_of-some (b ∷ line) lt = refl
+
+pub fed_line : (text : List ℕ) (at : ℕ) → position is_feed text ≡ Some at → lines_of text ≡ take (at + 1) text ∷ lines_of (drop (at + 1) text)
+fed_line text at is = (cut [] text 0 at (sym (position_from-zero is_feed text) ∙ is)).lines ∙ ap (λ (n : ℕ). take (n + 1) text ∷ lines_of (drop (n + 1) text)) (let same : at - 0 ≡ at = omega arith in same)
+
+pub last_line : (text : List ℕ) → 0 < length text → position is_feed text ≡ None → lines_of text ≡ take (length text) text ∷ lines_of (drop (length text) text)
+last_line text some is =
+    uncut [] text 0 (sym (position_from-zero is_feed text) ∙ is) ∙ rest_of-some text some
+    ∙ ap (λ (l : List ℕ). l ∷ []) (sym (take_all (length text) text (omega arith))) ∙ ap (λ (l : List ℕ). take (length text) text ∷ lines_of l) (sym (drop_all (length text) text (omega arith)))
+
+-- ---- the requests of the lines so far, and those behind them
+
+in_front-more : (front : List Request) (r : Request) (rest : Result (List Request) (ℕ × ℕ)) → in_front front (in_front (r ∷ []) rest) ≡ in_front (front ++ r ∷ []) rest
 in_front-more front r (Ok rs) = ap Ok (sym (append_assoc front (r ∷ []) rs))
 in_front-more front r (Err e) = refl
 
--- the part of the line that is read, and what is left
-module _ (bytes : List ℕ) where
-  abbrev pub ReadTo : List Request → ℕ → ℕ → ℕ → Type 0
-  ReadTo requests number begin at = in_front requests (requests_from number (take (at - begin) (drop begin bytes)) (drop at bytes)) ≡ requests_from 1 [] bytes
+pub in_front-none : (requests : List Request) (r : Result (List Request) (ℕ × ℕ)) → requests ≡ [] → in_front requests r ≡ r
+in_front-none requests (Ok rs) none = ap (λ (front : List Request). Ok (front ++ rs)) none
+in_front-none requests (Err e) none = refl
 
-  pub read_start : (requests : List Request) (number begin at : ℕ) → requests ≡ [] → number ≡ 1 → begin ≡ 0 → at ≡ 0 → ReadTo requests number begin at
-  read_start requests number begin at none one zero_begin zero_at =
-      ap (λ (rs : List Request). in_front rs (requests_from number (take (at - begin) (drop begin bytes)) (drop at bytes))) none
-      ∙ in_front-none (requests_from number (take (at - begin) (drop begin bytes)) (drop at bytes))
-      ∙ ap (λ (n : ℕ). requests_from n (take (at - begin) (drop begin bytes)) (drop at bytes)) one
-      ∙ ap (λ (b : ℕ). requests_from 1 (take (at - b) (drop b bytes)) (drop at bytes)) zero_begin
-      ∙ ap (λ (a : ℕ). requests_from 1 (take (a - 0) bytes) (drop a bytes)) zero_at
+-- the requests of the lines of a text that stand behind these are those of the whole
+abbrev pub Read : List Request → ℕ → List ℕ → Result (List Request) (ℕ × ℕ) → Type 0
+Read requests number text whole = in_front requests (requests_of number (lines_of text)) ≡ whole
 
-  one_byte : (line : List ℕ) (number at b : ℕ) → at < length bytes → b ≡ get_or bytes at 0 → requests_from number line (drop at bytes) ≡ requests_from number line (b ∷ drop (at + 1) bytes)
-  one_byte line number at b lt is = at_drop_more (λ (l : List ℕ). requests_from number line l) bytes at 0 lt ∙ ap (λ (x : ℕ). requests_from number line (x ∷ drop (at + 1) bytes)) (sym is)
+module _ (requests : List Request) (number : ℕ) (text line after : List ℕ) (whole : Result (List Request) (ℕ × ℕ)) (read : Read requests number text whole) where
+  pub all_read : text ≡ [] → whole ≡ Ok requests
+  all_read none = sym read ∙ ap (λ (t : List ℕ). in_front requests (requests_of number (lines_of t))) none ∙ ap Ok (append-nil requests)
 
-  abbrev pub read_line : ℕ → ℕ → List ℕ
-  read_line begin at = take (at - begin) (drop begin bytes)
+  module _ (first : lines_of text ≡ line ∷ lines_of after) where
+    as_line : (r : Result Request ℕ) → request_of line ≡ r → in_front requests (and_then number r (requests_of (number + 1) (lines_of after))) ≡ whole
+    as_line r is = sym (ap (λ (ls : List (List ℕ)). in_front requests (requests_of number ls)) first ∙ ap (λ (q : Result Request ℕ). in_front requests (and_then number q (requests_of (number + 1) (lines_of after)))) is) ∙ read
 
-  pub line_bad : (requests : List Request) (number begin at b : ℕ) → ReadTo requests number begin at → at < length bytes → b ≡ get_or bytes at 0 → b ≡ 10 → request_of number (read_line begin at) ≡ None → requests_from 1 [] bytes ≡ Err number
-  line_bad requests number begin at b read lt is feed bad =
-      let test : eqb b 10 ≡ true = grind (arith, nat_tests) in
-      sym read ∙ ap (in_front requests) (one_byte (read_line begin at) number at b lt is
-      ∙ ap (λ (t : Bool). cond t (and_then number (request_of number (read_line begin at)) (requests_from (number + 1) [] (drop (at + 1) bytes))) (requests_from number (read_line begin at ++ b ∷ []) (drop (at + 1) bytes))) test
-      ∙ ap (λ (o : Option Request). and_then number o (requests_from (number + 1) [] (drop (at + 1) bytes))) bad)
+    pub line_read : (pushed : List Request) → IsPushed (request_of line) requests pushed → Read pushed (number + 1) after whole
+    line_read pushed is = by (request_of line) refl is
+      where
+        by : (r : Result Request ℕ) → request_of line ≡ r → IsPushed r requests pushed → Read pushed (number + 1) after whole
+        by (Err at) e is = absurd is
+        by (Ok r) e is = ap (λ (rs : List Request). in_front rs (requests_of (number + 1) (lines_of after))) is ∙ sym (in_front-more requests r (requests_of (number + 1) (lines_of after))) ∙ as_line (Ok r) e
 
-  pub line_more : (requests more : List Request) (number begin at b next : ℕ) (r : Request) → ReadTo requests number begin at → at < length bytes → b ≡ get_or bytes at 0 → b ≡ 10 → request_of number (read_line begin at) ≡ Some r → more ≡ requests ++ r ∷ [] → next ≡ at + 1
-      → ReadTo more (number + 1) next next
-  line_more requests more number begin at b next r read lt is feed good more_is next_is =
-      let test : eqb b 10 ≡ true = grind (arith, nat_tests) in
-      let none : take (next - next) (drop next bytes) ≡ [] = ap (λ (n : ℕ). take n (drop next bytes)) (let e : next - next ≡ 0 = omega arith in e) in
-      ap (λ (l : List ℕ). in_front more (requests_from (number + 1) l (drop next bytes))) none
-      ∙ ap (λ (n : ℕ). in_front more (requests_from (number + 1) [] (drop n bytes))) next_is
-      ∙ ap (λ (rs : List Request). in_front rs (requests_from (number + 1) [] (drop (at + 1) bytes))) more_is
-      ∙ sym (in_front-more requests r (requests_from (number + 1) [] (drop (at + 1) bytes)))
-      ∙ ap (in_front requests) (sym (one_byte (read_line begin at) number at b lt is
-      ∙ ap (λ (t : Bool). cond t (and_then number (request_of number (read_line begin at)) (requests_from (number + 1) [] (drop (at + 1) bytes))) (requests_from number (read_line begin at ++ b ∷ []) (drop (at + 1) bytes))) test
-      ∙ ap (λ (o : Option Request). and_then number o (requests_from (number + 1) [] (drop (at + 1) bytes))) good))
-      ∙ read
-
-  line_longer : (begin at b next : ℕ) → begin ≤ at → at < length bytes → b ≡ get_or bytes at 0 → next ≡ at + 1 → read_line begin next ≡ read_line begin at ++ b ∷ []
-  line_longer begin at b next le lt is next_is =
-      ap (λ (n : ℕ). take n (drop begin bytes)) (let e : next - begin ≡ (at - begin) + 1 = omega (arith, le, next_is) in e)
-      ∙ take_more (drop begin bytes) (at - begin) 0 (omega (arith, le, lt, length-drop begin bytes))
-      ∙ ap (λ (x : ℕ). read_line begin at ++ x ∷ []) (get_or-drop begin bytes (at - begin) 0 ∙ ap (λ (n : ℕ). get_or bytes n 0) (let e : begin + (at - begin) ≡ at = omega (arith, le) in e) ∙ sym is)
-
-  -- a whole line was read
-  pub line_pushed : (requests more : List Request) (number begin at b next : ℕ) → ReadTo requests number begin at → at < length bytes → b ≡ get_or bytes at 0 → b ≡ 10 → IsPushed (request_of number (read_line begin at)) requests more → next ≡ at + 1
-      → ReadTo more (number + 1) next next
-  line_pushed requests more number begin at b next read lt is feed pushed next_is = by (request_of number (read_line begin at)) refl pushed
-    where
-      by : (o : Option Request) → request_of number (read_line begin at) ≡ o → IsPushed o requests more → ReadTo more (number + 1) next next
-      by None e p = absurd p
-      by (Some r) e p = line_more requests more number begin at b next r read lt is feed e p next_is
-
-  pub byte_more : (requests : List Request) (number begin at b next : ℕ) → ReadTo requests number begin at → begin ≤ at → at < length bytes → b ≡ get_or bytes at 0 → (b ≡ 10 → ⊥) → next ≡ at + 1 → ReadTo requests number begin next
-  byte_more requests number begin at b next read le lt is other next_is =
-      let test : eqb b 10 ≡ false = grind (arith, nat_tests) in
-      ap (λ (l : List ℕ). in_front requests (requests_from number l (drop next bytes))) (line_longer begin at b next le lt is next_is)
-      ∙ ap (λ (n : ℕ). in_front requests (requests_from number (read_line begin at ++ b ∷ []) (drop n bytes))) next_is
-      ∙ ap (in_front requests) (sym (one_byte (read_line begin at) number at b lt is
-      ∙ ap (λ (t : Bool). cond t (and_then number (request_of number (read_line begin at)) (requests_from (number + 1) [] (drop (at + 1) bytes))) (requests_from number (read_line begin at ++ b ∷ []) (drop (at + 1) bytes))) test))
-      ∙ read
-
-  all_read : (requests : List Request) (number begin at : ℕ) → ReadTo requests number begin at → at ≡ length bytes → in_front requests (at_end number (read_line begin at)) ≡ requests_from 1 [] bytes
-  all_read requests number begin at read end = ap (in_front requests) (sym (at_drop_all (λ (l : List ℕ). requests_from number (read_line begin at) l) bytes at (omega (arith, end)))) ∙ read
-
-  pub ends_well : (requests : List Request) (number begin at : ℕ) → ReadTo requests number begin at → at ≡ length bytes → begin ≡ length bytes → requests_from 1 [] bytes ≡ Ok requests
-  ends_well requests number begin at read end all =
-      let none : read_line begin at ≡ [] = ap (λ (n : ℕ). take n (drop begin bytes)) (let e : at - begin ≡ 0 = omega (arith, end, all) in e) in
-      sym (all_read requests number begin at read end) ∙ ap (λ (l : List ℕ). in_front requests (at_end number l)) none ∙ ap Ok (append-nil requests)
-
-  cut_long : (begin at : ℕ) → at ≡ length bytes → begin ≤ at → length (read_line begin at) ≡ at - begin
-  cut_long begin at end le = omega (arith, end, le, length-take (at - begin) (drop begin bytes), length-drop begin bytes)
-
-  pub ends_badly : (requests : List Request) (number begin at : ℕ) → ReadTo requests number begin at → at ≡ length bytes → begin < length bytes → requests_from 1 [] bytes ≡ Err number
-  ends_badly requests number begin at read end lt =
-      sym (all_read requests number begin at read end) ∙ ap (in_front requests) (by (read_line begin at) (omega (arith, end, lt, cut_long begin at end (omega (arith, end, lt)))))
-    where
-      by : (l : List ℕ) → 0 < length l → at_end number l ≡ Err number
-      by [] lt = absurd (omega (arith, lt))
-      by (b ∷ l) lt = refl
-
-  -- where the code's branches join
-  pub pushed_to : (requests pushed more : List Request) (number n begin b at : ℕ) → ReadTo requests number begin at → at < length bytes → get_or bytes at 0 ≡ 10 → IsPushed (request_of number (read_line begin at)) requests pushed
-      → more ≡ pushed → n ≡ number + 1 → b ≡ at + 1 → ReadTo more n b (at + 1)
-  pushed_to requests pushed more number n begin b at read lt feed is more_is n_is b_is =
-      let step = line_pushed requests pushed number begin at (get_or bytes at 0) (at + 1) read lt refl feed is refl in
-      let P : List Request → Type 0 = λ rs. ReadTo rs n b (at + 1) in
-      subst P (sym more_is) (let Q : ℕ → Type 0 = λ k. ReadTo pushed k b (at + 1) in subst Q (sym n_is) (let R : ℕ → Type 0 = λ k. ReadTo pushed (number + 1) k (at + 1) in subst R (sym b_is) step))
-
-  pub kept_to : (requests more : List Request) (number n begin b at : ℕ) → ReadTo requests number begin at → begin ≤ at → at < length bytes → (get_or bytes at 0 ≡ 10 → ⊥) → more ≡ requests → n ≡ number → b ≡ begin → ReadTo more n b (at + 1)
-  kept_to requests more number n begin b at read le lt other more_is n_is b_is =
-      let step = byte_more requests number begin at (get_or bytes at 0) (at + 1) read le lt refl other refl in
-      let P : List Request → Type 0 = λ rs. ReadTo rs n b (at + 1) in
-      subst P (sym more_is) (let Q : ℕ → Type 0 = λ k. ReadTo requests k b (at + 1) in subst Q (sym n_is) (let R : ℕ → Type 0 = λ k. ReadTo requests number k (at + 1) in subst R (sym b_is) step))
+    pub line_bad : (e : ScriptError) → IsBad (request_of line) number e → IsBadLine whole e
+    line_bad (BadInput bad at) is = sym (as_line (Err at) is.0) ∙ ap (λ (n : ℕ). Err (n, at)) (sym is.1)
+    line_bad (NotYet bad) is = absurd is
+    line_bad Memory is = tt

@@ -1,53 +1,101 @@
--- The lines of a script with their answers, and the happenings that they tell.
-use Rattle.std.specs.Prelude.{◌≡◌, ℕ, Bool, true, false, not, List, [], ◌∷◌, map, filter, reverse, Result, Ok, Err}
+-- The lines of a script with their answers, and what they make of the sessions and of the partition.
+use Rattle.std.specs.Prelude.{◌≡◌, ◌⊎◌, ℕ, ◌+◌, List, [], ◌∷◌, map, Result, Ok, Err}
 use Rattle.gt_model.specs.declared.done.Done.{Done}
 use Rattle.gt_model.specs.declared.done.Done.TheVariants.{Restarted}
+use Rattle.gt_model.specs.declared.event.Event.{Event}
+use Rattle.gt_model.specs.declared.limits.Limits.{Limits}
 use Rattle.gt_model.specs.declared.refusal.Refusal.{Refusal}
 use Rattle.gt_model.specs.declared.refusal.Refusal.TheVariants.{Memory}
-use Rattle.gt_model.specs.declared.event.Event.{Event}
-use Rattle.gt_model.specs.declared.event.Event.TheVariants.{Create as CreateEvent}
 use Rattle.gt_model.specs.declared.who.Who.{Who}
-use Rattle.gt_model.specs.Histories.{Happening, event, opened}
+use Rattle.gt_model.specs.Histories.{Happening, event, opened, kept}
+use Rattle.gt_model.specs.Machine.{State, Step, Settles, free_number}
+use Rattle.gt_part.specs.Shown.{turn_of}
 use Rattle.gt_script.specs.Printed.{printed as printed_answer}
-use Rattle.gt_prog.specs.declared.request.Form.TheVariants.{Create, Restart}
-use Rattle.gt_prog.specs.declared.request.Request.{Request}
+use Rattle.gt_script.specs.declared.form.Form.{Form}
+use Rattle.gt_script.specs.declared.form.Form.TheVariants.{Restart}
+use Rattle.gt_script.specs.declared.request.Request.{Request}
+use Rattle.gt_session.specs.Sessions.{Session, forgotten}
+use Rattle.gt_session.specs.Together.{sessions_from, Requests, GiveUp}
 
--- a line that was done: what was asked of the partition and answered, or a restart
-pub data Line : Type 0 where
-  did : Who → List ℕ → Result Done Refusal → Line
-  restarted : Who → Line
+-- ---- where a run stands
 
-abbrev pub request_of_line : Line → Request
-request_of_line (did who path answer) = record { who = who; form = Create path }
-request_of_line (restarted who) = record { who = who; form = Restart }
+-- the machine's state, and what has happened to the partition, the newest first
+pub record Past : Type 0 where
+  pub state : State
+  pub happened : List Happening
+
+-- the sessions 1 to 128, and the partition's past
+pub record Stand : Type 0 where
+  pub sessions : List Session
+  pub past : Past
+
+-- sessions that have nothing open and have seen nothing
+abbrev pub new_sessions : List Session
+new_sessions = sessions_from 1 128
+
+abbrev pub past_of : State → List Happening → Past
+past_of s happened = record { state = s; happened = happened }
+
+abbrev pub standing : List Session → Past → Stand
+standing sessions p = record { sessions = sessions; past = p }
+
+-- where lines begin over a partition
+abbrev pub from_here : List Session → State → Stand
+from_here sessions s = standing sessions (past_of s [])
+
+-- ---- one line
+
+-- a line that was done: its number, what it asked for, and what it was answered
+pub record Line : Type 0 where
+  pub number : ℕ
+  pub request : Request
+  pub answer : Result Done Refusal
+
+-- the requests with the numbers of their lines, which are counted from this one
+abbrev pub numbered : ℕ → List Request → List (ℕ × Request)
+numbered number [] = []
+numbered number (r ∷ rs) = (number, r) ∷ numbered (number + 1) rs
+
+-- the number of a line, and what it asks for
+abbrev pub asked_by : Line → ℕ × Request
+asked_by line = (line.number, line.request)
 
 -- what is written for a line
 abbrev pub printed : Line → List ℕ
-printed (did who path answer) = printed_answer answer
-printed (restarted who) = printed_answer (Ok Restarted)
+printed line = printed_answer line.answer
 
--- what a happening or a line tells: an event with its answer, or an opening
-pub data Told : Type 0 where
-  event_told : Who → Event → Result Done Refusal → Told
-  opening_told : Told
+-- The machine makes a step with this answer, and the event has happened. Of a want of memory there may be no record, and then nothing has changed.
+abbrev pub Happened : Limits → Who → Event → Result Done Refusal → Past → Past → Type 0
+Happened limits who e answer old new =
+    Step limits old.state e answer new.state
+    × (((tick : ℕ) × (new.happened ≡ event (turn_of who e (kept old.state e answer) tick) new.state ∷ old.happened)) ⊎ ((answer ≡ Err Memory) × (new ≡ old)))
 
-abbrev pub told_by : Happening → Told
-told_by (event turn s) = event_told turn.who turn.event turn.answer
-told_by (opened t s) = opening_told
+-- Everything was mounted again: what was in doubt is settled, nothing is open any more, and sessions keep what they have seen.
+pub record Restarts (line : Line) (old new : Stand) : Type 0 where
+  pub answer : line.answer ≡ Ok Restarted
+  pub sessions : new.sessions ≡ map forgotten old.sessions
+  pub settles : Settles old.past.state new.past.state
+  pub tick : ℕ
+  pub happened : new.past.happened ≡ opened tick new.past.state ∷ old.past.happened
 
-abbrev pub told_in : Line → Told
-told_in (did who path answer) = event_told who (CreateEvent path false) answer
-told_in (restarted who) = opening_told
+-- The session of the line took the course of what was asked, and no other session changed.
+abbrev pub Asked : Limits → Line → Stand → Stand → Type 0
+Asked limits line old new = Requests (Happened limits) (free_number old.past.state.pins) line.number line.request.session line.request.form line.answer old.sessions new.sessions old.past new.past
 
-abbrev pub wants_memory : Result Done Refusal → Bool
-wants_memory (Err Memory) = true
-wants_memory answer = false
+abbrev pub LineBy : Limits → Form → Line → Stand → Stand → Type 0
+LineBy limits Restart line old new = Restarts line old new
+LineBy limits form line old new = Asked limits line old new
 
--- whether it isn't a want of memory, of which there may be no record
-abbrev pub is_kept : Told → Bool
-is_kept (event_told who e answer) = not (wants_memory answer)
-is_kept opening_told = true
+abbrev pub IsLine : Limits → Line → Stand → Stand → Type 0
+IsLine limits line old new = LineBy limits line.request.form line old new
 
--- The happenings, the newest first, are those of the lines, wants of memory aside.
-abbrev pub AreLines : List Line → List Happening → Type 0
-AreLines lines happenings = filter is_kept (map told_by happenings) ≡ reverse (filter is_kept (map told_in lines))
+-- ---- all lines
+
+-- These lines were done, one after the other.
+abbrev pub AreLines : Limits → List Line → Stand → Stand → Type 0
+AreLines limits [] old new = new ≡ old
+AreLines limits (line ∷ lines) old new = (mid : Stand) × IsLine limits line old mid × AreLines limits lines mid new
+
+-- At the end of the input each session gives up what it has open, in order of their numbers.
+abbrev pub IsEnd : Limits → Stand → Past → Type 0
+IsEnd limits stand new = GiveUp (Happened limits) stand.sessions stand.past new

@@ -5,23 +5,37 @@ use Rattle.gt_disk.specs.Files.{Files, View, now, IsImage}
 use Rattle.gt_model.specs.declared.entry.Entry.{Entry}
 use Rattle.gt_model.specs.declared.limits.Limits.{Limits}
 use Rattle.gt_model.specs.Machine.{sure}
-use Rattle.gt_model.specs.Histories.{Happening}
 use Rattle.gt_outside.specs.Written.{AppendsAll, AppendsFront}
 use Rattle.gt_part.specs.Recovery.{recover, IsGood}
 use Rattle.gt_part.specs.Crash.{Holds}
-use Rattle.gt_prog.specs.declared.request.Request.{Request}
-use Rattle.gt_prog.specs.Lines.{Line, printed, request_of_line, AreLines}
+use Rattle.gt_script.specs.declared.request.Request.{Request}
+use Rattle.gt_prog.specs.Lines.{Line, Past, Stand, from_here, new_sessions, printed, numbered, asked_by, AreLines, IsEnd}
 
--- The work on a disk: what the disk recovers to is opened, and then come the happenings that the lines tell.
+-- The disk is opened at this moment with what it recovers to, and until then a stop leaves nothing that it couldn't leave before.
+pub record IsOpened (limits : Limits) (old new : View) (start : List Entry) (begin : ℕ) : Type 0 where
+  pub opens : recover limits old.reads ≡ Ok start
+  pub later : old.clock ≤ begin
+  pub moments : (m : ℕ) → old.clock ≤ m → m ≤ begin → (image : Files) → IsImage (new.at m) image → IsImage (now old) image
+
+-- The work on a disk, to the end of the input: it is opened, new sessions do the lines, and then each gives up what it has open. The disk has what both made.
 pub record Worked (limits : Limits) (old new : View) (lines : List Line) : Type 0 where
   pub start : List Entry
-  pub opens : recover limits old.reads ≡ Ok start
   pub begin : ℕ
-  pub later : old.clock ≤ begin
-  pub opening : (m : ℕ) → old.clock ≤ m → m ≤ begin → (image : Files) → IsImage (new.at m) image → IsImage (now old) image
-  pub history : List Happening
-  pub tells : AreLines lines history
-  pub holds : Holds limits (sure start) begin history new
+  pub opening : IsOpened limits old new start begin
+  pub stand : Stand
+  pub did : AreLines limits lines (from_here new_sessions (sure start)) stand
+  pub end : Past
+  pub ends : IsEnd limits stand end
+  pub holds : Holds limits (sure start) begin end.happened new
+
+-- The work on a disk that was cut short: it is opened, and new sessions do the lines. The disk has what they made.
+pub record WorkedPart (limits : Limits) (old new : View) (lines : List Line) : Type 0 where
+  pub start : List Entry
+  pub begin : ℕ
+  pub opening : IsOpened limits old new start begin
+  pub stand : Stand
+  pub did : AreLines limits lines (from_here new_sessions (sure start)) stand
+  pub holds : Holds limits (sure start) begin stand.past.happened new
 
 -- The files recover: no damage is passed over.
 abbrev pub Opens : Limits → View → Type 0
@@ -30,7 +44,7 @@ Opens limits old = (start : List Entry) × (recover limits old.reads ≡ Ok star
 -- These requests were done, and their answers and nothing else were written. A disk that tells recovers as it was handed in. One that may be handed in has come to the end of their run, and may be handed in again.
 pub record Replayed (tells : Bool) (limits : Limits) (requests : List Request) (old new : View) (written out : Option (List ℕ)) : Type 0 where
   pub lines : List Line
-  pub asked : map request_of_line lines ≡ requests
+  pub asked : map asked_by lines ≡ numbered 1 requests
   pub bytes : AppendsAll written out (flat_map printed lines)
   pub opens : IsTrue tells → Opens limits old
   pub worked : IsTrue tells → IsGood limits (now old) → Worked limits old new lines × IsGood limits (now new)
@@ -40,10 +54,10 @@ pub record ReplayedPart (tells : Bool) (limits : Limits) (requests : List Reques
   pub whole : List Line
   pub part : List Line
   pub at_most_one : length part ≤ 1
-  pub rest : List Request
-  pub asked : requests ≡ map request_of_line (whole ++ part) ++ rest
+  pub rest : List (ℕ × Request)
+  pub asked : numbered 1 requests ≡ map asked_by (whole ++ part) ++ rest
   pub between : Option (List ℕ)
   pub bytes : AppendsAll written between (flat_map printed whole)
   pub front : AppendsFront between out (flat_map printed part)
   pub opens : IsTrue tells → Opens limits old
-  pub worked : IsTrue tells → IsGood limits (now old) → Worked limits old new (whole ++ part)
+  pub worked : IsTrue tells → IsGood limits (now old) → WorkedPart limits old new (whole ++ part)

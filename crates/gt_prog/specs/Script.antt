@@ -1,52 +1,81 @@
 -- What the lines of an input ask for.
-use Rattle.std.specs.Prelude.{ℕ, ◌+◌, ◌-◌, ◌==◌, Bool, ◌&&◌, ◌||◌, nat_le, nat_lt, nat_eq, is_none, List, [], ◌∷◌, ◌++◌, length, take, drop, Option, Some, None, Result, Ok, Err, if◌then◌else◌, codes}
-use Rattle.std.specs.List.{starts_with, list_all}
+use Rattle.std.specs.Prelude.{ℕ, ◌+◌, ◌≤◌, ◌==◌, nat_lt, Bool, true, false, not, List, [], ◌∷◌, ◌++◌, length, position, Option, Some, None, Result, Ok, Err, if◌then◌else◌}
 use Rattle.std.specs.Option.{option_map}
-use Rattle.std.specs.Cmp.Lexicographic.{pointwise}
-use Rattle.gt_name.specs.Paths.{bad_path}
-use Rattle.gt_prog.specs.declared.request.Form.{Form}
-use Rattle.gt_prog.specs.declared.request.Form.TheVariants.{Create, Restart}
-use Rattle.gt_prog.specs.declared.request.Request.{Request}
+use Rattle.gt_script.specs.declared.form.Form.{Form}
+use Rattle.gt_script.specs.declared.form.Form.TheVariants as forms
+use Rattle.gt_script.specs.declared.request.Request.{Request}
+use Rattle.gt_script.specs.Grammar.{request_of}
 
--- a letter in lower case or a digit
-abbrev pub is_plain_byte : ℕ → Bool
-is_plain_byte b = (nat_le 97 b && nat_le b 122) || (nat_le 48 b && nat_le b 57)
+-- ---- lines
 
--- 1 to 60 such bytes, and four bytes more
-abbrev pub has_plain_stem : List ℕ → Bool
-has_plain_stem text = nat_le 5 (length text) && nat_le (length text) 64 && list_all is_plain_byte (take (length text - 4) text)
+abbrev pub rest_of : List ℕ → List (List ℕ)
+rest_of [] = []
+rest_of (b ∷ line) = (b ∷ line) ∷ []
 
--- the creation of a repository at a good path: 1 to 60 such bytes before `.git`
-abbrev pub creates : List ℕ → Option Form
-creates text = if has_plain_stem text && is_none (bad_path text) then Some (Create text) else None
+-- the lines of an input behind the part of a line, each with its line feed; what follows the last line feed, if anything does, is a line without one
+abbrev pub lines_from : List ℕ → List ℕ → List (List ℕ)
+lines_from line [] = rest_of line
+lines_from line (b ∷ bs) = if b == 10 then (line ++ b ∷ []) ∷ lines_from [] bs else lines_from (line ++ b ∷ []) bs
 
--- what the words behind the session ask for: `create` and a path, or `restart`
-abbrev pub form_of : List ℕ → Option Form
-form_of text = if starts_with nat_eq text (codes "create ") then creates (drop 7 text) else (if pointwise nat_eq text (codes "restart") then Some Restart else None)
+abbrev pub lines_of : List ℕ → List (List ℕ)
+lines_of bytes = lines_from [] bytes
 
--- the request of a line of this number, without its line feed: a session from 1 to 9, a space, and what it asks for
-abbrev pub request_of : ℕ → List ℕ → Option Request
-request_of number [] = None
-request_of number (s ∷ rest) =
-    if nat_le 49 s && nat_le s 57 && starts_with nat_eq rest (codes " ") then option_map (λ form. record { who = record { session = s - 48; line = number }; form = form }) (form_of (drop 1 rest)) else None
+-- ---- requests
 
-abbrev pub in_front : List Request → Result (List Request) ℕ → Result (List Request) ℕ
+-- Its session is one of those of a script.
+abbrev pub HasSession : Request → Type 0
+HasSession r = (1 ≤ r.session) × (r.session ≤ 128)
+
+abbrev pub in_front : List Request → Result (List Request) (ℕ × ℕ) → Result (List Request) (ℕ × ℕ)
 in_front front (Ok rest) = Ok (front ++ rest)
 in_front front (Err bad) = Err bad
 
-abbrev pub and_then : ℕ → Option Request → Result (List Request) ℕ → Result (List Request) ℕ
-and_then number None rest = Err number
-and_then number (Some r) rest = in_front (r ∷ []) rest
+-- the request of the line of this number, or the place that is bad, and then those behind it
+abbrev pub and_then : ℕ → Result Request ℕ → Result (List Request) (ℕ × ℕ) → Result (List Request) (ℕ × ℕ)
+and_then number (Err at) rest = Err (number, at)
+and_then number (Ok r) rest = in_front (r ∷ []) rest
 
-abbrev pub at_end : ℕ → List ℕ → Result (List Request) ℕ
-at_end number [] = Ok []
-at_end number (b ∷ line) = Err number
+-- the requests of lines that are counted from this number, or the first bad line and the place in it
+abbrev pub requests_of : ℕ → List (List ℕ) → Result (List Request) (ℕ × ℕ)
+requests_of number [] = Ok []
+requests_of number (line ∷ lines) = and_then number (request_of line) (requests_of (number + 1) lines)
 
--- the requests from a line on, of which a part is read, or the number of the first line that isn't of these forms
-abbrev pub requests_from : ℕ → List ℕ → List ℕ → Result (List Request) ℕ
-requests_from number line [] = at_end number line
-requests_from number line (b ∷ bs) = if b == 10 then and_then number (request_of number line) (requests_from (number + 1) [] bs) else requests_from number (line ++ b ∷ []) bs
+-- whether a form of line is built
+abbrev pub is_built : Form → Bool
+is_built (forms.Create path None) = true
+is_built (forms.Delete path) = true
+is_built (forms.Begin path None) = true
+is_built (forms.Put kind content) = true
+is_built (forms.Set name old new) = true
+is_built (forms.Verify name old) = true
+is_built (forms.Get name) = true
+is_built (forms.List prefix) = true
+is_built (forms.Cat name) = true
+is_built forms.Commit = true
+is_built forms.Abort = true
+is_built forms.Restart = true
+is_built form = false
 
--- the requests of an input, whose lines are counted from 1; an input that is longer than the limit is bad at line 0
-abbrev pub script_of : ℕ → List ℕ → Result (List Request) ℕ
-script_of limit bytes = if nat_lt limit (length bytes) then Err 0 else requests_from 1 [] bytes
+-- the first request that isn't of a built form, as the number of its line from 1
+abbrev pub not_built : List Request → Option ℕ
+not_built requests = option_map (λ i. i + 1) (position (λ r. not (is_built r.form)) requests)
+
+-- ---- the script
+
+-- Why an input is no script that can be done: this line, from 1, is bad at this place, and an input over the limit at line 0, at the limit; or this is the first line of a form that isn't built, which is tried after all lines are found good.
+pub data Fault : Type 0 where
+  bad_at : ℕ → ℕ → Fault
+  not_yet_at : ℕ → Fault
+
+abbrev pub unless_unbuilt : Option ℕ → List Request → Result (List Request) Fault
+unless_unbuilt None requests = Ok requests
+unless_unbuilt (Some line) requests = Err (not_yet_at line)
+
+-- requests that can be done, where all lines are good
+abbrev pub doable : Result (List Request) (ℕ × ℕ) → Result (List Request) Fault
+doable (Ok requests) = unless_unbuilt (not_built requests) requests
+doable (Err bad) = Err (bad_at bad.0 bad.1)
+
+-- the requests of an input, whose lines are counted from 1
+abbrev pub script_of : ℕ → List ℕ → Result (List Request) Fault
+script_of limit bytes = if nat_lt limit (length bytes) then Err (bad_at 0 limit) else doable (requests_of 1 (lines_of bytes))

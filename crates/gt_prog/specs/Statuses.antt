@@ -8,25 +8,29 @@ use Rattle.gt_log.specs.declared.mount_cause.MountCause.TheVariants.{DeviceFault
 use Rattle.gt_model.specs.declared.limits.Limits.{Limits}
 use Rattle.gt_prog.specs.declared.playing.PlayCause.{PlayCause}
 use Rattle.gt_prog.specs.declared.playing.PlayCause.TheVariants.{Write, Device, Damaged as DamagedLater, Memory as NoMemoryToPlay}
-use Rattle.gt_prog.specs.declared.request.Request.{Request}
+use Rattle.gt_script.specs.declared.request.Request.{Request}
 use Rattle.gt_prog.specs.declared.status.Status.{Status}
-use Rattle.gt_prog.specs.declared.status.Status.TheVariants.{Done, Usage, ReadFault, WriteFault, DiskFault, Damaged, Memory, NotYet}
+use Rattle.gt_prog.specs.declared.status.Status.TheVariants.{Done, Usage, ReadFault, WriteFault, DiskFault, Damaged, Memory, BadInput, NotYet}
 use Rattle.gt_prog.specs.Replay.{Replayed, ReplayedPart}
-use Rattle.gt_prog.specs.Script.{script_of}
+use Rattle.gt_prog.specs.Script.{bad_at, not_yet_at, script_of}
 
 -- the greatest input, in bytes
 abbrev pub input_limit : ℕ
-input_limit = 524288
+input_limit = 134217728
 
 -- the input, where it is told, asks for these requests
 abbrev pub Asks : Option (List ℕ) → List Request → Type 0
 Asks input requests = IfSome input (λ bytes. script_of input_limit bytes ≡ Ok requests)
 
--- the input, where it is told, has its first bad line here
-abbrev pub IsBadAt : Option (List ℕ) → ℕ → Type 0
-IsBadAt input line = IfSome input (λ bytes. script_of input_limit bytes ≡ Err line)
+-- the input, where it is told, has its first bad line and the place in it here
+abbrev pub IsBadAt : Option (List ℕ) → ℕ → ℕ → Type 0
+IsBadAt input line at = IfSome input (λ bytes. script_of input_limit bytes ≡ Err (bad_at line at))
 
--- the input, where it is told, has no bad line
+-- the input, where it is told, has good lines alone, and its first line of a form that isn't built here
+abbrev pub IsNotYetAt : Option (List ℕ) → ℕ → Type 0
+IsNotYetAt input line = IfSome input (λ bytes. script_of input_limit bytes ≡ Err (not_yet_at line))
+
+-- the input, where it is told, is a script that can be done
 abbrev pub IsGoodInput : Option (List ℕ) → Type 0
 IsGoodInput input = (requests : List Request) × Asks input requests
 
@@ -39,6 +43,7 @@ IsEarly WriteFault = ⊥
 IsEarly (DiskFault disk) = ⊥
 IsEarly (Damaged disk file at) = ⊥
 IsEarly Memory = ⊥
+IsEarly (BadInput line at) = Unit {0}
 IsEarly (NotYet line) = Unit {0}
 
 -- the statuses of the work that follows the reading of the input; want of memory may come of either
@@ -50,6 +55,7 @@ IsUnderway WriteFault = Unit {0}
 IsUnderway (DiskFault disk) = Unit {0}
 IsUnderway (Damaged disk file at) = Unit {0}
 IsUnderway Memory = ⊥
+IsUnderway (BadInput line at) = ⊥
 IsUnderway (NotYet line) = ⊥
 
 -- the statuses that may come before the requests or among them
@@ -61,6 +67,7 @@ IsBreak WriteFault = ⊥
 IsBreak (DiskFault disk) = Unit {0}
 IsBreak (Damaged disk file at) = Unit {0}
 IsBreak Memory = Unit {0}
+IsBreak (BadInput line at) = ⊥
 IsBreak (NotYet line) = ⊥
 
 -- Nothing was written, and where the disk tells it, it reads as before and a stop can leave nothing new.
@@ -94,6 +101,7 @@ WorkEnds tells limits requests old new written out WriteFault = ReplayedPart tel
 WorkEnds tells limits requests old new written out (DiskFault disk) = IsUntouched tells old new written out ⊎ ReplayedPart tells limits requests old new written out
 WorkEnds tells limits requests old new written out (Damaged disk file at) = IsUntouched tells old new written out ⊎ ReplayedPart tells limits requests old new written out
 WorkEnds tells limits requests old new written out Memory = IsUntouched tells old new written out ⊎ ReplayedPart tells limits requests old new written out
+WorkEnds tells limits requests old new written out (BadInput line at) = ⊥
 WorkEnds tells limits requests old new written out (NotYet line) = ⊥
 
 -- what reading the input gives: its requests, or the status with its cause
@@ -106,7 +114,8 @@ ReadsInput (Err WriteFault) input = ⊥
 ReadsInput (Err (DiskFault disk)) input = ⊥
 ReadsInput (Err (Damaged disk file at)) input = ⊥
 ReadsInput (Err Memory) input = Unit {0}
-ReadsInput (Err (NotYet line)) input = IsBadAt input line
+ReadsInput (Err (BadInput line at)) input = IsBadAt input line at
+ReadsInput (Err (NotYet line)) input = IsNotYetAt input line
 
 -- The count of faults of the host or of the disk rose.
 abbrev pub RoseEither : ℕ → ℕ → ℕ → ℕ → Type 0

@@ -1,8 +1,12 @@
 //! The program: a script of requests over folders, one answer line a request.
 #![tactic(auto)]
 
+mod answering;
+mod doing;
+mod local;
 mod playing;
-mod request;
+#[cfg(test)]
+mod row_tests;
 mod script;
 mod status;
 #[cfg(test)]

@@ -1,24 +1,25 @@
-ghost use Rattle.std.specs.Prelude.{◌≡◌, ◌≢◌, ◌≤◌, ◌∷◌, [], ℕ, List, length, IsTrue, IfOk, IfErr, Err, OnOk, OnErr, IsErrOf};
+//! All lines of a script, done over a partition.
+ghost use Rattle.std.specs.Prelude.{◌≡◌, ◌≢◌, ◌≤◌, ◌<◌, ◌^◌, ℕ, List, length, map, None, IsTrue, IfOk, IfErr, Err};
+ghost use Rattle.std.specs.List.{All};
 ghost use Rattle.gt_disk.specs.Files.{Rose};
 ghost use Rattle.gt_disk.specs.declared.file_id.FileId.{FileId};
 ghost use Rattle.gt_log.specs.declared.mount_cause.MountCause.{MountCause};
-ghost use Rattle.gt_model.specs.Machine.{State, is_fault, is_faulty};
-ghost use Rattle.gt_model.specs.Histories.{Happening};
-ghost use Rattle.gt_outside.specs.Written.{AppendsAll, AppendsFront};
-ghost use Rattle.gt_part.specs.Crash.{Holds};
-ghost use Rattle.gt_part.specs.Mounts.{HasMountCause};
+ghost use Rattle.gt_part.specs.Called.{Called};
 ghost use Rattle.gt_part.specs.Recovery.{recover};
-ghost use Rattle.gt_part.specs.Shown.{HasRun, KeepsPast};
-ghost use Rattle.gt_prog.specs.Played.{DidOne, Played, PlayedPart};
-ghost use Rattle.gt_script.specs.Printed.{printed};
+ghost use Rattle.gt_prog.specs.Lines.{new_sessions};
+ghost use Rattle.gt_prog.specs.Played.{Played, PlayedPart, PlayedWhole};
+ghost use Rattle.gt_prog.specs.Script.{HasSession, not_built};
+ghost use Rattle.gt_session.specs.Together.{AreHeld, GiveUp};
 
-use crate::request::{Form, Request};
+use crate::answering::write_answer;
+use crate::doing::play_one;
+use crate::local::Local;
 use gt_disk::{Disk, FileId};
 use gt_log::{MountCause, MountError};
-use gt_model::{Answer, Done, Refusal};
-use gt_outside::{Sink, write_whole};
+use gt_outside::Sink;
 use gt_part::Partition;
-use gt_script::print_answer;
+use gt_script::Request;
+use gt_session::{Sessions, new_sessions_hold_nothing};
 use std::alloc::Global;
 
 /// What ends the work early.
@@ -41,83 +42,18 @@ pub(crate) struct PlayError<D> {
     pub(crate) disk: D,
 }
 
-/// Does one request.
-fn play_one<D: Disk + Drop>(
-    alloc: Global,
-    partition: Partition<D>,
-    request: &Request,
-) -> Result<(Partition<D>, Answer), MountError<D>>
-    ensures did { IfOk result (λ r. DidOne D.tells D.view request.now r.1 partition r.0) }
-    ensures limits { IfOk result (λ r. r.0.limits ≡ partition.limits) }
-    ensures fault { IfOk result (λ r. IsTrue (is_faulty r.1) → Rose (D.fault_count partition.disk) (D.fault_count r.0.disk)) }
-    ensures later { IfOk result (λ r. D.fault_count partition.disk ≤ D.fault_count r.0.disk) }
-    ensures cause { IfErr result (HasMountCause D.fault_count partition.disk) }
-    ensures in_vain { IsTrue D.tells → (start : State) (begin : ℕ) (history : List Happening) → HasRun D.view start begin history partition
-        → IfErr result (λ e. Holds partition.limits start begin history (D.view e.disk)) }
-    ensures past { IsTrue D.tells → IfErr result (λ e. KeepsPast (D.view partition.disk) (D.view e.disk)) }
-    ensures damaged { IfErr result (λ e. (file : FileId) (at : ℕ) → e.cause ≡ MountCause.Damaged file at → IsTrue D.tells → recover partition.limits (D.view e.disk).reads ≡ Err (file, at)) }
-{
-    match &request.form {
-        Form::Create { path } => {
-            let mut partition = partition;
-            let answer = partition.create(alloc, request.who, path, false);
-            Ok((partition, answer))
-        }
-        Form::Restart => match partition.restart(alloc) {
-            Ok(partition) => Ok((partition, Ok(Done::Restarted))),
-            Err(error) => Err(error),
-        },
-    }
-}
-
-/// Whether an answer comes of a failing disk.
-fn is_faulty(answer: &Answer) -> bool
-    ensures { result ≡ is_faulty answer.now }
-{
-    match answer {
-        Ok(_) => false,
-        Err(refusal) => is_fault(refusal),
-    }
-}
-
-fn is_fault(refusal: &Refusal) -> bool
-    ensures { result ≡ is_fault refusal.now }
-{
-    matches!(
-        refusal,
-        Refusal::DeviceFault | Refusal::Unsure { .. } | Refusal::MapUnsure { .. }
-    )
-}
-
-/// Writes what a request is answered. A failing disk isn't answered, and ends the work.
-fn write_answer<K: Sink>(alloc: Global, sink: &mut K, answer: &Answer) -> Result<(), PlayCause>
-    ensures whole { OnOk result (AppendsAll (K.written sink.old) (K.written sink.new) (printed answer.now)) }
-    ensures front { OnErr result (AppendsFront (K.written sink.old) (K.written sink.new) (printed answer.now)) }
-    ensures later { K.faults sink.old ≤ K.faults sink.new }
-    ensures write { IsErrOf result PlayCause.Write → Rose (K.faults sink.old) (K.faults sink.new) }
-    ensures device { IsErrOf result PlayCause.Device → IsTrue (is_faulty answer.now) }
-    ensures sound { (file : FileId) (at : ℕ) → IsErrOf result (PlayCause.Damaged file at) → ⊥ }
-{
-    if is_faulty(answer) {
-        return Err(PlayCause::Device);
-    }
-    let Ok(text) = print_answer(alloc, answer) else {
-        return Err(PlayCause::Memory);
-    };
-    match write_whole(sink, &text) {
-        Ok(()) => Ok(()),
-        Err(_) => Err(PlayCause::Write),
-    }
-}
-
-/// Does the requests in order, and writes each answer before the next.
+/// Does the requests of all lines in order, and writes each answer before the next. Then each session gives up what it has
+/// open.
 pub(crate) fn play<D: Disk + Drop, K: Sink>(
     alloc: Global,
     partition: Partition<D>,
     sink: &mut K,
     requests: &[Request],
 ) -> Result<Partition<D>, PlayError<D>>
-    ensures played { IfOk result (λ p. Played D.tells D.view requests.now partition p (K.written sink.old) (K.written sink.new)) }
+    requires few { length requests.now < 2 ^ 32 }
+    requires built { not_built requests.now ≡ None }
+    requires sessions { All HasSession requests.now }
+    ensures played { IfOk result (λ p. PlayedWhole D.tells D.view requests.now partition p (K.written sink.old) (K.written sink.new)) }
     ensures part { IfErr result (λ e. PlayedPart D.tells D.view requests.now partition (D.view e.disk) (K.written sink.old) (K.written sink.new)) }
     ensures later { K.faults sink.old ≤ K.faults sink.new }
     ensures counts { IfOk result (λ p. D.fault_count partition.disk ≤ D.fault_count p.disk) }
@@ -126,22 +62,75 @@ pub(crate) fn play<D: Disk + Drop, K: Sink>(
     ensures device { IfErr result (λ e. e.cause ≡ PlayCause.Device → Rose (D.fault_count partition.disk) (D.fault_count e.disk)) }
     ensures damaged { IfErr result (λ e. (file : FileId) (at : ℕ) → e.cause ≡ PlayCause.Damaged file at → IsTrue D.tells → recover partition.limits (D.view e.disk).reads ≡ Err (file, at)) }
 {
-    let mut partition = partition;
+    let mut sessions = match Sessions::new(alloc) {
+        Ok(sessions) => sessions,
+        Err(_) => {
+            return Err(PlayError {
+                cause: PlayCause::Memory,
+                disk: partition.unmount(),
+            });
+        }
+    };
+    new_sessions_hold_nothing();
+    match play_lines(alloc, Local { partition }, &mut sessions, sink, requests) {
+        Ok(local) => Ok(finish(local, sessions)),
+        Err(error) => Err(error),
+    }
+}
+
+/// Does the requests of all lines in order, and writes each answer before the next.
+fn play_lines<D: Disk + Drop, K: Sink>(
+    alloc: Global,
+    local: Local<D>,
+    sessions: &mut Sessions<Local<D>>,
+    sink: &mut K,
+    requests: &[Request],
+) -> Result<Local<D>, PlayError<D>>
+    requires few { length requests.now < 2 ^ 32 }
+    requires built { not_built requests.now ≡ None }
+    requires sessions { All HasSession requests.now }
+    requires begin { sessions.old ≡ new_sessions }
+    requires held { AreHeld sessions.old (map (λ p. p.number) local.state.pins) }
+    ensures played { IfOk result (λ p. Played D.tells D.view requests.now sessions.new local p (K.written sink.old) (K.written sink.new)) }
+    ensures held { IfOk result (λ p. AreHeld sessions.new (map (λ p. p.number) p.state.pins)) }
+    ensures part { IfErr result (λ e. PlayedPart D.tells D.view requests.now local (D.view e.disk) (K.written sink.old) (K.written sink.new)) }
+    ensures later { K.faults sink.old ≤ K.faults sink.new }
+    ensures counts { IfOk result (λ p. D.fault_count local.disk ≤ D.fault_count p.disk) }
+    ensures counts_in_vain { IfErr result (λ e. D.fault_count local.disk ≤ D.fault_count e.disk) }
+    ensures write { IfErr result (λ e. e.cause ≡ PlayCause.Write → Rose (K.faults sink.old) (K.faults sink.new)) }
+    ensures device { IfErr result (λ e. e.cause ≡ PlayCause.Device → Rose (D.fault_count local.disk) (D.fault_count e.disk)) }
+    ensures damaged { IfErr result (λ e. (file : FileId) (at : ℕ) → e.cause ≡ PlayCause.Damaged file at → IsTrue D.tells → recover local.limits (D.view e.disk).reads ≡ Err (file, at)) }
+{
+    let mut local = local;
+    let mut line = 0;
     for request in requests {
-        match play_one(alloc, partition, request) {
+        line += 1;
+        match play_one(alloc, local, sessions, line, request) {
             Err(error) => return Err(not_reopened(error)),
             Ok((next, answer)) => {
-                partition = next;
+                local = next;
                 if let Err(cause) = write_answer(alloc, sink, &answer) {
                     return Err(PlayError {
                         cause,
-                        disk: partition.unmount(),
+                        disk: local.partition.unmount(),
                     });
                 }
             }
         }
     }
-    Ok(partition)
+    Ok(local)
+}
+
+/// Has each session give up what it has open, and gives the partition back.
+fn finish<D: Disk + Drop>(local: Local<D>, sessions: Sessions<Local<D>>) -> Partition<D>
+    requires { AreHeld sessions (map (λ p. p.number) local.state.pins) }
+    ensures ends { GiveUp (Called D.tells D.view D.fault_count) sessions local result }
+    ensures later { D.fault_count local.disk ≤ D.fault_count result.disk }
+{
+    let mut local = local;
+    let mut sessions = sessions;
+    sessions.end_all(&mut local);
+    local.partition
 }
 
 fn not_reopened<D>(error: MountError<D>) -> PlayError<D>

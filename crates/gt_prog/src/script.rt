@@ -1,128 +1,141 @@
-ghost use Rattle.std.specs.Prelude.{◌≡◌, ◌<◌, ◌≤◌, ◌^◌, length, IfOk, IfErr, OnOk, []};
-ghost use Rattle.std.specs.List.{list_all};
-ghost use Rattle.gt_prog.specs.Script.{is_plain_byte, has_plain_stem, creates, form_of, request_of, requests_from};
-ghost use Rattle.gt_prog.specs.Parses.{Parses, IsPushed, IsBadLine};
+ghost use Rattle.std.specs.Prelude.{◌≡◌, ◌<◌, ◌≤◌, ◌^◌, ◌∷◌, ◌==◌, not, length, take, drop, position, IfOk, IfErr, OnOk, Ok, None};
+ghost use Rattle.std.specs.List.{All};
+ghost use Rattle.gt_script.specs.Grammar.{request_of};
+ghost use Rattle.gt_prog.specs.Script.{HasSession, is_built, not_built, lines_of, requests_of, doable};
+ghost use Rattle.gt_prog.specs.Parses.{Parses, IsPushed, IsBad, IsBadLine};
 
-use crate::request::{Form, Request};
-use gt_list::NoMemory;
-use gt_model::Who;
-use gt_name::{NameError, RepoPath};
+use gt_script::{Form, LineError, Request, parse_line};
 use std::alloc::Global;
 
-/// Why an input is no script.
+/// Why an input is no script that can be done.
 #[derive(Clone, Copy, Debug, PartialEq, Eq)]
 pub enum ScriptError {
-    /// The first line that is of no form that is built, from 1.
+    /// The first bad line, from 1, and the place in it, in bytes from 0.
+    BadInput { line: u32, at: u64 },
+    /// All lines are good, and this is the first of a form that isn't built, from 1.
     NotYet { line: u32 },
     /// Memory ran out.
     Memory,
 }
 
-fn is_all_plain(text: &[u8]) -> bool
-    ensures { result ≡ list_all is_plain_byte text.now }
+/// Whether lines of this form are done.
+fn is_built(form: &Form) -> bool
+    ensures { result ≡ is_built form.now }
 {
-    text.iter().all(|b| matches!(b, b'a'..=b'z' | b'0'..=b'9'))
+    matches!(
+        form,
+        Form::Create { near: None, .. }
+            | Form::Delete { .. }
+            | Form::Begin { from: None, .. }
+            | Form::Put { .. }
+            | Form::Set { .. }
+            | Form::Verify { .. }
+            | Form::Get { .. }
+            | Form::List { .. }
+            | Form::Cat { .. }
+            | Form::Commit
+            | Form::Abort
+            | Form::Restart
+    )
 }
 
-/// Whether a text is 1 to 60 letters and digits and four bytes more.
-fn has_plain_stem(text: &[u8]) -> bool
-    ensures { result ≡ has_plain_stem text.now }
+fn not_built_index(requests: &[Request]) -> Option<usize>
+    ensures { result ≡ position (λ r. not (is_built r.form)) requests.now }
 {
-    let len = text.len();
-    len >= 5 && len <= 64 && is_all_plain(&text[..len - 4])
+    requests.iter().position(|request| !is_built(&request.form))
 }
 
-/// The creation of a repository at a path of 1 to 60 letters and digits before `.git`.
-fn creates(alloc: Global, text: &[u8]) -> Result<Option<Form>, NoMemory>
-    ensures { IfOk result (λ form. form ≡ creates text.now) }
+/// The line of the first request that isn't of a built form, from 1.
+fn first_not_built(requests: &[Request]) -> Option<u32>
+    requires { length requests.now < 2 ^ 32 }
+    ensures { result ≡ not_built requests.now }
 {
-    if !has_plain_stem(text) {
-        return Ok(None);
-    }
-    match RepoPath::parse(alloc, text) {
-        Ok(path) => Ok(Some(Form::Create { path })),
-        Err(NameError::BadPath { .. }) => Ok(None),
-        Err(NameError::BadRef { .. }) => unreachable!(),
-        Err(NameError::Memory) => Err(NoMemory),
-    }
-}
-
-fn form_of(alloc: Global, text: &[u8]) -> Result<Option<Form>, NoMemory>
-    ensures { IfOk result (λ form. form ≡ form_of text.now) }
-{
-    if text.starts_with(b"create ") {
-        return creates(alloc, &text[7..]);
-    }
-    if text == b"restart".as_slice() {
-        Ok(Some(Form::Restart))
-    } else {
-        Ok(None)
+    match not_built_index(requests) {
+        None => None,
+        Some(index) => Some(index as u32 + 1),
     }
 }
 
-/// The request of a line without its line feed.
-fn request_of(alloc: Global, number: u32, line: &[u8]) -> Result<Option<Request>, NoMemory>
-    ensures { IfOk result (λ request. request ≡ request_of number line.now) }
+fn line_feed(text: &[u8]) -> Option<usize>
+    ensures { result ≡ position (λ b. b == 10) text.now }
 {
-    let [session @ b'1'..=b'9', rest @ ..] = line else {
-        return Ok(None);
-    };
-    if !rest.starts_with(b" ") {
-        return Ok(None);
-    }
-    let session = *session - b'0';
-    match form_of(alloc, &rest[1..])? {
-        None => Ok(None),
-        Some(form) => Ok(Some(Request {
-            who: Who {
-                session,
-                line: number,
-            },
-            form,
-        })),
+    text.iter().position(|byte| *byte == b'\n')
+}
+
+/// The length of the first line, with its line feed; where there is none, of all.
+fn line_len(text: &[u8]) -> usize
+    requires { 0 < length text.now }
+    ensures some { 0 < result }
+    ensures within { result ≤ length text.now }
+    ensures first { lines_of text.now ≡ take result text.now ∷ lines_of (drop result text.now) }
+{
+    match line_feed(text) {
+        None => text.len(),
+        Some(at) => at + 1,
     }
 }
 
-/// Adds the request of a line.
+/// Adds the request of the line of this number.
 fn push_request(
     alloc: Global,
     requests: &mut Vec<Request>,
-    number: u32,
-    line: &[u8],
+    line: u32,
+    text: &[u8],
 ) -> Result<(), ScriptError>
-    ensures ok { OnOk result (IsPushed (request_of number line.now) requests.old.items requests.new.items) }
-    ensures err { IfErr result (IsBadLine (request_of number line.now) number) }
+    ensures ok { OnOk result (IsPushed (request_of text.now) requests.old.items requests.new.items) }
+    ensures err { IfErr result (IsBad (request_of text.now) line) }
 {
-    match request_of(alloc, number, line) {
-        Err(NoMemory) => Err(ScriptError::Memory),
-        Ok(None) => Err(ScriptError::NotYet { line: number }),
-        Ok(Some(request)) => match requests.push(request) {
+    match parse_line(alloc, text) {
+        Ok(request) => match requests.push(request) {
             Ok(()) => Ok(()),
             Err(_) => Err(ScriptError::Memory),
         },
+        Err(LineError::BadLine { at }) => Err(ScriptError::BadInput {
+            line,
+            at: at as u64,
+        }),
+        Err(LineError::Memory) => Err(ScriptError::Memory),
     }
 }
 
-/// The requests of an input, line by line.
-pub(crate) fn parse_script(alloc: Global, bytes: &[u8]) -> Result<Vec<Request>, ScriptError>
+/// The requests of all lines, in one pass.
+fn read_lines(alloc: Global, bytes: &[u8]) -> Result<Vec<Request>, ScriptError>
     requires { length bytes.now < 2 ^ 31 }
-    ensures { Parses (requests_from 1 [] bytes.now) result }
+    ensures ok { IfOk result (λ requests. requests_of 1 (lines_of bytes.now) ≡ Ok requests.items) }
+    ensures few { IfOk result (λ requests. length requests.items ≤ length bytes.now) }
+    ensures err { IfErr result (IsBadLine (requests_of 1 (lines_of bytes.now))) }
 {
     let mut requests = Vec::new(alloc);
-    let mut number = 1;
-    let mut begin = 0;
-    for (at, byte) in bytes.iter().enumerate() {
-        if *byte == b'\n' {
-            if let Err(error) = push_request(alloc, &mut requests, number, &bytes[begin..at]) {
-                return Err(error);
-            }
-            number += 1;
-            begin = at + 1;
+    let mut line = 1;
+    let mut rest = bytes;
+    'lines: while !rest.is_empty() {
+        let (text, after) = rest.split_at(line_len(rest));
+        if let Err(error) = push_request(alloc, &mut requests, line, text) {
+            return Err(error);
         }
+        line += 1;
+        rest = after;
     }
-    if begin == bytes.len() {
-        Ok(requests)
-    } else {
-        Err(ScriptError::NotYet { line: number })
+    Ok(requests)
+}
+
+/// The requests of an input, line by line: the request of the line n, from 1, has the index n - 1.
+///
+/// `BadInput` comes exactly where a line isn't of the language, at the first such line, and `NotYet` exactly where all
+/// lines are, and one isn't of a built form.
+pub(crate) fn parse_script(alloc: Global, bytes: &[u8]) -> Result<Vec<Request>, ScriptError>
+    requires { length bytes.now < 2 ^ 31 }
+    ensures script { Parses (doable (requests_of 1 (lines_of bytes.now))) result }
+    ensures few { IfOk result (λ requests. length requests.items ≤ length bytes.now) }
+    ensures built { IfOk result (λ requests. not_built requests.items ≡ None) }
+    ensures sessions { IfOk result (λ requests. All HasSession requests.items) }
+{
+    let requests = match read_lines(alloc, bytes) {
+        Ok(requests) => requests,
+        Err(error) => return Err(error),
+    };
+    match first_not_built(&requests) {
+        None => Ok(requests),
+        Some(line) => Err(ScriptError::NotYet { line }),
     }
 }

@@ -18,7 +18,9 @@ pub enum Status {
     Damaged { disk: u8, file: FileId, at: u64 },
     /// Memory ran out.
     Memory,
-    /// This line, from 1, is of no form that is built; line 0 is an input over the limit.
+    /// This line of the input, from 1, is bad at this place, in bytes from 0; line 0, at the limit, is an input over it.
+    BadInput { line: u32, at: u64 },
+    /// All lines of the input are good, and this one, from 1, is the first of a form that isn't built.
     NotYet { line: u32 },
 }
 
@@ -33,6 +35,7 @@ impl Status {
             Status::DiskFault { .. } => 5,
             Status::Damaged { .. } => 6,
             Status::Memory => 7,
+            Status::BadInput { .. } => 8,
             Status::NotYet { .. } => 10,
         }
     }
@@ -51,6 +54,7 @@ impl Status {
                 format!(in alloc; "gitstore: damaged {disk} {kind}-{number} {at}\n")
             }
             Status::Memory => String::from_str(alloc, "gitstore: memory\n"),
+            Status::BadInput { line, at } => format!(in alloc; "gitstore: bad input {line} {at}\n"),
             Status::NotYet { line } => format!(in alloc; "gitstore: not yet {line}\n"),
         }
     }

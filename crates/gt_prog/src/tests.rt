@@ -6,7 +6,7 @@ use std::alloc::Global;
 use std::process::Abort;
 use std::test::Fail;
 
-fn nine_disks(alloc: Global) -> Result<Vec<MemDisk>, Fail> {
+pub(crate) fn nine_disks(alloc: Global) -> Result<Vec<MemDisk>, Fail> {
     let mut disks = Vec::new(alloc);
     for _ in 0..9 {
         disks.push(MemDisk::new(alloc)?)?;
@@ -15,7 +15,7 @@ fn nine_disks(alloc: Global) -> Result<Vec<MemDisk>, Fail> {
 }
 
 /// What a run over empty disks answers, and what it writes.
-fn ran(
+pub(crate) fn ran(
     rt: &impl Abort,
     alloc: Global,
     input: &[u8],
@@ -49,15 +49,55 @@ fn creates_and_restarts(rt: HostRuntime) -> Result<(), Fail> {
     ran(
         &rt,
         alloc,
-        b"1 create a.git\n1 begin a.git\n",
+        b"128 create A.git\n128 create a/b-c.git\n",
+        Status::Done,
+        b"badpath 0\nok create 1\n",
+    )
+}
+
+/// What a run over a bad input answers; it writes nothing.
+fn refused(rt: &impl Abort, alloc: Global, input: &[u8], line: u32, at: u64) -> Result<(), Fail> {
+    ran(rt, alloc, input, Status::BadInput { line, at }, b"")
+}
+
+#[test]
+fn names_the_first_bad_line(rt: HostRuntime) -> Result<(), Fail> {
+    let alloc = rt.alloc();
+    refused(&rt, alloc, b"\n", 1, 0)?;
+    refused(&rt, alloc, b"129 restart\n", 1, 0)?;
+    refused(&rt, alloc, b"1 creat a.git\n", 1, 2)?;
+    refused(&rt, alloc, b"1 begin  a.git\n", 1, 8)?;
+    refused(&rt, alloc, b"1 commit", 1, 8)?;
+    refused(&rt, alloc, b"1 restart\n1 restart\n1 create\n2\n", 3, 8)?;
+    refused(&rt, alloc, b"1 begin a.git\n1 restart again\n", 2, 10)
+}
+
+#[test]
+fn names_the_first_line_that_is_not_built(rt: HostRuntime) -> Result<(), Fail> {
+    let alloc = rt.alloc();
+    ran(
+        &rt,
+        alloc,
+        b"1 create a.git\n1 pool p.git\n1 commit\n",
         Status::NotYet { line: 2 },
         b"",
     )?;
     ran(
         &rt,
         alloc,
-        b"1 create a.git",
+        b"1 create a.git near b.git\n",
         Status::NotYet { line: 1 },
         b"",
     )
+}
+
+#[test]
+fn tells_the_bad_place(rt: HostRuntime) -> Result<(), Fail> {
+    let status = Status::BadInput { line: 3, at: 8 };
+    assert_eq!(rt; status.code(), 8);
+    assert_eq!(rt;
+        status.text(rt.alloc())?.as_str(),
+        "gitstore: bad input 3 8\n"
+    );
+    Ok(())
 }

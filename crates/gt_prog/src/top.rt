@@ -1,12 +1,13 @@
-ghost use Rattle.std.specs.Prelude.{◌≡◌, ◌≤◌, ◌↔◌, ℕ, false, IsTrue, map, Err};
+ghost use Rattle.std.specs.Prelude.{◌≡◌, ◌≤◌, ◌<◌, ◌^◌, ◌↔◌, ℕ, length, false, IsTrue, IfOk, None, map, Err};
+ghost use Rattle.std.specs.List.{All};
 ghost use Rattle.gt_disk.specs.Files.{Rose};
 ghost use Rattle.gt_disk.specs.declared.file_id.FileId.{FileId};
 ghost use Rattle.gt_model.specs.Usual.{usual};
 ghost use Rattle.gt_part.specs.Recovery.{recover};
-ghost use Rattle.gt_prog.specs.Statuses.{IsBadAt, IsGoodInput, IsDone, IsCutShort, IsBroken, IsBreak, IsEarly, IsUnderway, ReadsInput, RoseEither};
+ghost use Rattle.gt_prog.specs.Script.{HasSession, not_built};
+ghost use Rattle.gt_prog.specs.Statuses.{IsBadAt, IsNotYetAt, IsGoodInput, IsDone, IsCutShort, IsBroken, IsBreak, IsEarly, IsUnderway, ReadsInput, RoseEither};
 ghost use Rattle.gt_prog.specs.Words.{is_replay};
 
-use crate::request::Request;
 use crate::script::{ScriptError, parse_script};
 use crate::status::Status;
 use crate::words::is_replay;
@@ -14,15 +15,18 @@ use crate::working::work;
 use gt_disk::Disk;
 use gt_model::Limits;
 use gt_outside::{Host, ReadError, Sink, Source, read_whole};
+use gt_script::Request;
 use std::alloc::Global;
 
 /// The greatest input, in bytes.
-const INPUT_LIMIT: usize = 524_288;
+const INPUT_LIMIT: usize = 134_217_728;
 
 /// All that the program does, on one thread.
 ///
 /// The only words are the one word `replay`: the whole input is read, then its lines are read, then the disk of the
 /// partition is taken and mounted, and then the lines are done, each answer written before the next line is done.
+/// `BadInput` comes exactly where a line is bad, and `NotYet` exactly where all are good and one is of no built form, where
+/// the words are known, and neither the source nor memory fails.
 pub fn gitstore_plain<H: Host, S: Source, K: Sink>(
     alloc: Global,
     words: &[&str],
@@ -40,7 +44,8 @@ pub fn gitstore_plain<H: Host, S: Source, K: Sink>(
 
     // Its cause.
     ensures usage { (result ≡ Status.Usage) ↔ (is_replay (map (λ w. w.now) words.now) ≡ false) }
-    ensures not_yet { (line : ℕ) → result ≡ Status.NotYet line → IsBadAt (S.left source.old) line }
+    ensures bad_input { (line at : ℕ) → result ≡ Status.BadInput line at → IsBadAt (S.left source.old) line at }
+    ensures not_yet { (line : ℕ) → result ≡ Status.NotYet line → IsNotYetAt (S.left source.old) line }
     ensures good_input { IsUnderway result → IsGoodInput (S.left source.old) }
     ensures read { result ≡ Status.ReadFault → Rose (S.faults source.old) (S.faults source.new) }
     ensures write { result ≡ Status.WriteFault → Rose (K.faults sink.old) (K.faults sink.new) }
@@ -60,17 +65,26 @@ pub fn gitstore_plain<H: Host, S: Source, K: Sink>(
 /// The requests of the whole input.
 fn requests_in<S: Source>(alloc: Global, source: &mut S) -> Result<Vec<Request>, Status>
     ensures input { ReadsInput result (S.left source.old) }
+    ensures few { IfOk result (λ requests. length requests.items < 2 ^ 32) }
+    ensures built { IfOk result (λ requests. not_built requests.items ≡ None) }
+    ensures sessions { IfOk result (λ requests. All HasSession requests.items) }
     ensures later { S.faults source.old ≤ S.faults source.new }
     ensures read { result ≡ Err Status.ReadFault → Rose (S.faults source.old) (S.faults source.new) }
 {
     let bytes = match read_whole(alloc, source, INPUT_LIMIT) {
         Ok(bytes) => bytes,
         Err(ReadError::Failed) => return Err(Status::ReadFault),
-        Err(ReadError::TooLong) => return Err(Status::NotYet { line: 0 }),
+        Err(ReadError::TooLong) => {
+            return Err(Status::BadInput {
+                line: 0,
+                at: INPUT_LIMIT as u64,
+            });
+        }
         Err(ReadError::Memory) => return Err(Status::Memory),
     };
     match parse_script(alloc, &bytes) {
         Ok(requests) => Ok(requests),
+        Err(ScriptError::BadInput { line, at }) => Err(Status::BadInput { line, at }),
         Err(ScriptError::NotYet { line }) => Err(Status::NotYet { line }),
         Err(ScriptError::Memory) => Err(Status::Memory),
     }

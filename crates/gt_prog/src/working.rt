@@ -1,17 +1,19 @@
-ghost use Rattle.std.specs.Prelude.{◌≡◌, ◌≤◌, ℕ, false, IsTrue, Err};
+ghost use Rattle.std.specs.Prelude.{◌≡◌, ◌≤◌, ◌<◌, ◌^◌, ℕ, length, false, IsTrue, None, Err};
+ghost use Rattle.std.specs.List.{All};
 ghost use Rattle.gt_disk.specs.Files.{Rose};
 ghost use Rattle.gt_disk.specs.declared.file_id.FileId.{FileId};
 ghost use Rattle.gt_part.specs.Recovery.{recover};
+ghost use Rattle.gt_prog.specs.Script.{HasSession, not_built};
 ghost use Rattle.gt_prog.specs.Statuses.{RoseEither, WorkEnds, status_of_mount, status_of_play};
 
 use crate::playing::{PlayCause, play};
-use crate::request::Request;
 use crate::status::Status;
 use gt_disk::Disk;
 use gt_log::MountCause;
 use gt_model::Limits;
 use gt_outside::{Host, Sink};
 use gt_part::Partition;
+use gt_script::Request;
 use std::alloc::Global;
 
 /// The one partition, and its disk.
@@ -25,7 +27,10 @@ pub(crate) fn work<H: Host, K: Sink>(
     sink: &mut K,
     requests: &[Request],
 ) -> Status
-    requires { H.is_out host.old 1 ≡ false }
+    requires here { H.is_out host.old 1 ≡ false }
+    requires few { length requests.now < 2 ^ 32 }
+    requires built { not_built requests.now ≡ None }
+    requires sessions { All HasSession requests.now }
     ensures ends { WorkEnds H.D.tells limits requests.now (H.disk_view host.old 1) (H.disk_view host.new 1) (K.written sink.old) (K.written sink.new) result }
     ensures later { K.faults sink.old ≤ K.faults sink.new }
     ensures write { result ≡ Status.WriteFault → Rose (K.faults sink.old) (K.faults sink.new) }
@@ -49,6 +54,9 @@ fn over_disk<D: Disk + Drop, K: Sink>(
     sink: &mut K,
     requests: &[Request],
 ) -> (D, Status)
+    requires few { length requests.now < 2 ^ 32 }
+    requires built { not_built requests.now ≡ None }
+    requires sessions { All HasSession requests.now }
     ensures ends { WorkEnds D.tells limits requests.now (D.view disk) (D.view result.0) (K.written sink.old) (K.written sink.new) result.1 }
     ensures later { K.faults sink.old ≤ K.faults sink.new }
     ensures counts { D.fault_count disk ≤ D.fault_count result.0 }

@@ -7,10 +7,10 @@ use Rattle.gt_part.proofs.loading.read_entries.Given as goal
 
 abbrev pub invariant-loop-n : goal.invariant-loop-n
 invariant-loop-n g l = record {
-  counted : l.n ≡ length l.table.entries.items;
+  counted : l.n ≡ length l.table.log;
   later : (g.D.Disk.view l.fn.disk).clock ≤ (g.D.Disk.view l.disk).clock;
   faults : g.D.Disk.fault_count l.fn.disk ≤ g.D.Disk.fault_count l.disk;
   quiet : IsTrue g.D.Disk.tells → Quiet (g.D.Disk.view l.fn.disk) (g.D.Disk.view l.disk);
   loaded : IsTrue g.D.Disk.tells
-      → read_log (g.D.Disk.view l.fn.disk).reads nothing 1 l.count ≡ prepend l.table.entries.items (read_log (g.D.Disk.view l.fn.disk).reads (content l.table.entries.items) (l.n + 1) (l.count - l.n));
+      → read_log (g.D.Disk.view l.fn.disk).reads nothing 1 l.count ≡ prepend l.table.log (read_log (g.D.Disk.view l.fn.disk).reads (content l.table.log) (l.n + 1) (l.count - l.n));
 }

@@ -1,6 +1,6 @@
 use Rattle.std.proofs.Common.{List, sym, subst}
 use Rattle.gt_model.specs.Usual.{usual}
-use Rattle.gt_prog.specs.declared.request.Request.{Request}
+use Rattle.gt_script.specs.declared.request.Request.{Request}
 use Rattle.gt_prog.specs.Statuses.{Asks}
 use Rattle.gt_prog.proofs.Ends.{is_done, is_cut_short, is_broken}
 use Rattle.gt_prog.proofs.top.gitstore_plain.Goals as goal

@@ -1,0 +1,16 @@
+use Rattle.std.proofs.Common.{◌≡◌, refl, ◌∙◌, arith}
+use Rattle.gt_model.specs.declared.event.Event.TheVariants.{GetRef}
+use Rattle.gt_part.proofs.Calling.{called, not_called, same_called, not_faulty, moves_pins}
+use Rattle.gt_part.proofs.partition.Partition.get_ref.Goals as goal
+
+pub returns-in_default-clause-called : goal.returns-in_default-clause-called
+returns-in_default-clause-called g c = same_called _ _ _ _ _ _ refl
+
+pub returns-in-Err-clause-called : goal.returns-in-Err-clause-called
+returns-in-Err-clause-called g c = rw (← c.self.view_is) (not_called _ _ _ _ _ _ _ c.take_room.ensures.same refl)
+
+pub returns-clause-called : goal.returns-clause-called
+returns-clause-called g c = rw (← c.self.view_is) (
+    let e = c.get_ref-ended.ensures in
+    let asked : GetRef c.pin.inside.number c.in-Ok.copy ≡ GetRef c.args.pin.now c.args.name.now = cc (c.pin.view_is, c.in-Ok.ensures.cases) in
+    called _ _ _ _ _ _ _ _ _ _ _ _ _ asked (c.note.ensures.answer ∙ c.of.ensures.answer) c.of.ensures.kept c.tick-tick.ensures refl refl c.take_room.ensures.same c.note.ensures.turns tt e.step (omega arith) (not_faulty _ e.sure) (λ told. moves_pins _ _ _ _ refl refl))

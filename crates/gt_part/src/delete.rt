@@ -1,0 +1,120 @@
+ghost use Rattle.std.specs.Prelude.{◌≡◌, ◌≤◌, IsTrue, IfOk, None, Err, true};
+ghost use Rattle.gt_disk.specs.Files.{Rose};
+ghost use Rattle.gt_model.specs.declared.event.Event.{Event};
+ghost use Rattle.gt_model.specs.declared.refusal.Refusal.{Refusal as Why};
+ghost use Rattle.gt_model.specs.Contents.{has_repo, least_member};
+ghost use Rattle.gt_model.specs.Histories.{kept};
+ghost use Rattle.gt_model.specs.Machine.{Step, Acts, content, is_faulty};
+ghost use Rattle.gt_part.specs.Book.{state_of};
+ghost use Rattle.gt_part.specs.Ended.{answer_of, IsKeptOf};
+ghost use Rattle.gt_part.specs.Stored.{Moves};
+
+use crate::act::{add, settle};
+use crate::book::Book;
+use crate::ended::Ended;
+use crate::reply::Reply;
+use gt_disk::{Disk, Failed};
+use gt_list::NoMemory;
+use gt_log::LogError;
+use gt_model::{Change, Entry, Limits, Refusal};
+use gt_name::RepoPath;
+use std::alloc::Global;
+
+/// Settles what is in doubt, and then deletes a repository.
+pub(crate) fn delete<D: Disk>(
+    alloc: Global,
+    limits: &Limits,
+    book: &mut Book,
+    disk: &mut D,
+    path: &RepoPath,
+) -> Reply
+    ensures step { Step limits.now (state_of book.old) (Event.Delete path.now) result.answer (state_of book.new) }
+    ensures kept { IsKeptOf (state_of book.old) (Event.Delete path.now) result }
+    ensures pins { book.new.live ≡ book.old.live }
+    ensures fault { IsTrue (is_faulty result.answer) → Rose (D.fault_count disk.old) (D.fault_count disk.new) }
+    ensures later { D.fault_count disk.old ≤ D.fault_count disk.new }
+    ensures moves { IsTrue D.tells → Moves limits.now (state_of book.old) (state_of book.new) (D.view disk.old) (D.view disk.new) }
+{
+    if let Err(Failed) = settle(book, disk) {
+        return Reply::of(Ended::DeviceFault);
+    }
+    delete_settled(alloc, limits, book, disk, path)
+}
+
+/// Deletes a repository, where nothing is in doubt.
+fn delete_settled<D: Disk>(
+    alloc: Global,
+    limits: &Limits,
+    book: &mut Book,
+    disk: &mut D,
+    path: &RepoPath,
+) -> Reply
+    requires { book.old.doubt ≡ None }
+    ensures acts { Acts limits.now (state_of book.old) (Event.Delete path.now) result.answer (state_of book.new) }
+    ensures kept { IsKeptOf (state_of book.old) (Event.Delete path.now) result }
+    ensures pins { book.new.live ≡ book.old.live }
+    ensures fault { IsTrue (is_faulty result.answer) → Rose (D.fault_count disk.old) (D.fault_count disk.new) }
+    ensures later { D.fault_count disk.old ≤ D.fault_count disk.new }
+    ensures moves { IsTrue D.tells → Moves limits.now (state_of book.old) (state_of book.new) (D.view disk.old) (D.view disk.new) }
+{
+    if !book.table.has_repo(path) {
+        return Reply::of(Ended::NoRepository);
+    }
+    if let Some(member) = book.table.least_member(path) {
+        return match in_use(member) {
+            Ok(reply) => reply,
+            Err(NoMemory) => Reply::of(Ended::Memory),
+        };
+    }
+    Reply::of(delete_unused(alloc, limits, book, disk, path))
+}
+
+/// A pool is in use by a member.
+fn in_use(member: &RepoPath) -> Result<Reply, NoMemory>
+    ensures answer { IfOk result (λ reply. reply.answer ≡ Err (Why.PoolInUse member.now)) }
+    ensures kept { IfOk result (λ reply. reply.kept ≡ Err (Why.PoolInUse member.now)) }
+{
+    match member.clone() {
+        Ok(member) => Reply::refused(Refusal::PoolInUse { member }),
+        Err(_) => Err(NoMemory),
+    }
+}
+
+/// Deletes a repository that is there, and that none has as its pool.
+fn delete_unused<D: Disk>(
+    alloc: Global,
+    limits: &Limits,
+    book: &mut Book,
+    disk: &mut D,
+    path: &RepoPath,
+) -> Ended
+    requires settled { book.old.doubt ≡ None }
+    requires there { has_repo (content book.old.table.log) path.now ≡ true }
+    requires unused { least_member (content book.old.table.log) path.now ≡ None }
+    ensures acts { Acts limits.now (state_of book.old) (Event.Delete path.now) (answer_of result) (state_of book.new) }
+    ensures kept { kept (state_of book.old) (Event.Delete path.now) (answer_of result) ≡ answer_of result }
+    ensures pins { book.new.live ≡ book.old.live }
+    ensures fault { IsTrue (is_faulty (answer_of result)) → Rose (D.fault_count disk.old) (D.fault_count disk.new) }
+    ensures later { D.fault_count disk.old ≤ D.fault_count disk.new }
+    ensures moves { IsTrue D.tells → Moves limits.now (state_of book.old) (state_of book.new) (D.view disk.old) (D.view disk.new) }
+{
+    let front = book.table.front();
+    if limits.positions <= front {
+        return Ended::LogFull;
+    }
+    let Ok(path) = path.clone() else {
+        return Ended::Memory;
+    };
+    let position = front + 1;
+    let entry = Entry {
+        position,
+        path,
+        change: Change::Delete,
+    };
+    match add(alloc, limits, book, disk, entry) {
+        Ok(()) => Ended::Deleted { position },
+        Err(LogError::Untouched) => Ended::DeviceFault,
+        Err(LogError::Unsure) => Ended::Unsure { position },
+        Err(LogError::Memory) => Ended::Memory,
+    }
+}

@@ -1,0 +1,15 @@
+use std::marker::Model;
+
+/// The leave of a live transaction. Only the partition makes one; contracts see its number.
+#[derive(Debug, Drop)]
+pub struct Pin {
+    pub(crate) number: u8,
+}
+
+impl Model for Pin {
+    ghost use Rattle.std.specs.Prelude.{ℕ};
+
+    ghost Value = { ℕ };
+
+    ghost view = { λ p. p.number };
+}

@@ -1,0 +1,182 @@
+-- What every call keeps a line keeps, and a session's own answers blame no disk.
+use Rattle.std.proofs.Common.{◌≡◌, inl, inr, ℕ, Bool, true, false, IsTrue, List, [], ◌∷◌, ◌++◌, length, Option, Some, None, Result, Ok, Err, refl, sym, ap, subst}
+use Rattle.gt_name.specs.Paths.{bad_path}
+use Rattle.gt_name.specs.References.{bad_ref}
+use Rattle.gt_object.specs.declared.kind.Kind.{Kind}
+use Rattle.gt_object.specs.declared.error.ObjectError.{ObjectError}
+use Rattle.gt_object.specs.declared.error.ObjectError.TheVariants as object
+use Rattle.gt_object.specs.Header.{header}
+use Rattle.gt_object.specs.Whole.{why_not_new}
+use Rattle.gt_model.specs.declared.done.Done.{Done}
+use Rattle.gt_model.specs.declared.done.Done.TheVariants as done
+use Rattle.gt_model.specs.declared.event.Event.{Event}
+use Rattle.gt_model.specs.declared.event.Event.TheVariants as event
+use Rattle.gt_model.specs.declared.refusal.Refusal.{Refusal}
+use Rattle.gt_model.specs.declared.refusal.Refusal.TheVariants.{BadRef, BadPath, NotOpen, AlreadyOpen, Memory}
+use Rattle.gt_model.specs.declared.who.Who.{Who}
+use Rattle.gt_model.specs.Machine.{is_faulty, is_fault}
+use Rattle.gt_script.specs.declared.form.Form.{Form}
+use Rattle.gt_script.specs.declared.form.Form.TheVariants as line
+use Rattle.gt_stage.specs.Staging.{Holding, own_ref, own_record, is_over_refs, is_over_bytes, staged_set, staged_check, staged_put}
+use Rattle.gt_session.specs.Sessions.{Open, Session}
+use Rattle.gt_session.specs.Courses.{Turned, Course, alone, asks, reads, course, refused, with_path, with_ref, with_open, unless_open, with_old, old_in, staged, put, put_record, set, check, get, cat, value_of, content_of, refusal_of, list_in}
+use Rattle.gt_session.specs.Calls.{Takes, Makes, Does, GivesUp}
+use Rattle.gt_session.specs.Together.{Requests, GiveUp}
+
+-- ---- a session's own answers
+
+-- no answer of the session's own comes of a failing disk
+abbrev pub IsFaultless : Course → Type 0
+IsFaultless (alone turned) = is_faulty turned.0 ≡ false
+IsFaultless (asks e) = Unit {0}
+IsFaultless (reads e make) = (d : Done) → is_faulty (make d).0 ≡ false
+
+abbrev IsEachFaultless : Option Course → Type 0
+IsEachFaultless None = Unit {0}
+IsEachFaultless (Some c) = IsFaultless c
+
+module _ (s : Session) where
+  path_faultless : (text : List ℕ) (c : Course) → IsFaultless c → IsFaultless (with_path s text c)
+  path_faultless text c ok = by (bad_path text)
+    where
+      by : (at : Option ℕ) → IsFaultless (elim at [ None ↦ c | Some p ↦ refused s (BadPath p) ])
+      by None = ok
+      by (Some p) = refl
+
+  ref_faultless : (text : List ℕ) (c : Course) → IsFaultless c → IsFaultless (with_ref s text c)
+  ref_faultless text c ok = by (bad_ref text)
+    where
+      by : (bad : Option (ℕ × ℕ)) → IsFaultless (elim bad [ None ↦ c | Some b ↦ refused s (BadRef b.0 b.1) ])
+      by None = ok
+      by (Some b) = refl
+
+  open_faultless : (make : Open → Course) → ((o : Open) → IsFaultless (make o)) → IsFaultless (with_open s make)
+  open_faultless make ok = by s.open
+    where
+      by : (o : Option Open) → IsFaultless (elim o [ None ↦ refused s NotOpen | Some x ↦ make x ])
+      by None = refl
+      by (Some x) = ok x
+
+  shut_faultless : (c : Course) → IsFaultless c → IsFaultless (unless_open s c)
+  shut_faultless c ok = by s.open
+    where
+      by : (o : Option Open) → IsFaultless (elim o [ None ↦ c | Some x ↦ refused s AlreadyOpen ])
+      by None = ok
+      by (Some x) = refl
+
+  staged_faultless : (o : Open) (over : Bool) (stage : Holding) (d : Done) → is_faulty (staged s o over stage d).0 ≡ false
+  staged_faultless o true stage d = refl
+  staged_faultless o false stage d = refl
+
+  refusal_faultless : (e : ObjectError) → is_fault (refusal_of e) ≡ false
+  refusal_faultless object.TooLarge = refl
+  refusal_faultless (object.BadObject at) = refl
+  refusal_faultless object.Memory = refl
+
+  put_faultless : (o : Open) (kind : Kind) (content : List ℕ) → is_faulty (put s o kind content).0 ≡ false
+  put_faultless o kind content = by (why_not_new kind content)
+    where
+      by : (why : Option ObjectError) → (let turned : Turned = elim why [ None ↦ put_record s o (header kind (length content) ++ content) | Some w ↦ (Err (refusal_of w), s) ] in is_faulty turned.0 ≡ false)
+      by None = staged_faultless o (is_over_bytes o.stage (header kind (length content) ++ content)) (staged_put o.stage (header kind (length content) ++ content)) _
+      by (Some w) = refusal_faultless w
+
+  old_faultless : (o : Open) (name : List ℕ) (old : Option (List ℕ)) (turned : List ℕ → Turned) → ((v : List ℕ) → is_faulty (turned v).0 ≡ false) → IsFaultless (with_old s o name old turned)
+  old_faultless o name (Some old) turned ok = ok old
+  old_faultless o name None turned ok = by (own_ref o.stage.staged.refs name)
+    where
+      by : (own : Option (List ℕ)) → IsFaultless (elim own [ Some v ↦ alone (turned v) | None ↦ reads (event.GetRef o.pin name) (λ d. turned (old_in d)) ])
+      by (Some v) = ok v
+      by None = λ d. ok (old_in d)
+
+  get_faultless : (o : Open) (name : List ℕ) → IsFaultless (get s o name)
+  get_faultless o name = by (own_ref o.stage.staged.refs name)
+    where
+      by : (own : Option (List ℕ)) → IsFaultless (elim own [ Some v ↦ alone (Ok (done.Value (value_of v)), s) | None ↦ asks (event.GetRef o.pin name) ])
+      by (Some v) = refl
+      by None = tt
+
+  cat_faultless : (o : Open) (name : List ℕ) → IsFaultless (cat s o name)
+  cat_faultless o name = by (own_record o.stage.staged.records name)
+    where
+      by : (own : Option (List ℕ)) → IsFaultless (elim own [ Some whole ↦ alone (Ok (done.Object whole), s) | None ↦ asks (event.Cat o.pin name) ])
+      by (Some whole) = refl
+      by None = tt
+
+  list_faultless : (o : Open) (prefix : List ℕ) (d : Done) → is_faulty (list_in s o prefix d).0 ≡ false
+  list_faultless o prefix (done.Refs list) = refl
+  list_faultless o prefix d = refl
+
+  course_faultless : (form : Form) → IsEachFaultless (course s form)
+  course_faultless (line.Create path None) = path_faultless path (asks (event.Create path false)) tt
+  course_faultless (line.Delete path) = path_faultless path (asks (event.Delete path)) tt
+  course_faultless (line.Begin path None) = shut_faultless (with_path s path (asks (event.Begin path s.seen))) (path_faultless path (asks (event.Begin path s.seen)) tt)
+  course_faultless (line.Put kind content) = open_faultless (λ o. alone (put s o kind (content_of content))) (λ o. put_faultless o kind (content_of content))
+  course_faultless (line.Set name old new) =
+      open_faultless (λ o. with_ref s name (with_old s o name old (set s o name new)))
+      (λ o. ref_faultless name (with_old s o name old (set s o name new)) (old_faultless o name old (set s o name new) (λ v. staged_faultless o (is_over_refs o.stage name) (staged_set o.stage name v new) done.Staged)))
+  course_faultless (line.Verify name old) =
+      open_faultless (λ o. with_ref s name (with_old s o name old (check s o name)))
+      (λ o. ref_faultless name (with_old s o name old (check s o name)) (old_faultless o name old (check s o name) (λ v. staged_faultless o (is_over_refs o.stage name) (staged_check o.stage name v) done.Checked)))
+  course_faultless (line.Get name) = open_faultless (λ o. with_ref s name (get s o name)) (λ o. ref_faultless name (get s o name) (get_faultless o name))
+  course_faultless (line.List prefix) = open_faultless (λ o. reads (event.ListRefs o.pin prefix) (list_in s o prefix)) (λ o. list_faultless o prefix)
+  course_faultless (line.Cat name) = open_faultless (λ o. cat s o name) (λ o. cat_faultless o name)
+  course_faultless line.Commit = open_faultless (λ o. asks (event.Commit o.pin o.stage.staged.refs o.stage.staged.records)) (λ o. tt)
+  course_faultless line.Abort = open_faultless (λ o. asks (event.Abort o.pin)) (λ o. tt)
+  course_faultless form = tt
+
+-- ---- what a line keeps
+
+module _ {P : Type 0} (Did : Who → Event → Result Done Refusal → P → P → Type 0) (old new : P) (Keeps : Type 0) (same : new ≡ old → Keeps) (call : (who : Who) (e : Event) (a : Result Done Refusal) → Did who e a old new → Keeps) where
+  takes_keeps : (who : Who) (pin : ℕ) (s : Session) (c : Course) (turned : Turned) → Takes (Did who) pin s c turned old new → Keeps
+  takes_keeps who pin s (alone answered) turned (inl h) = same h.1
+  takes_keeps who pin s (alone answered) turned (inr h) = same h.1
+  takes_keeps who pin s (asks e) turned (inl h) = call who e turned.0 h.0
+  takes_keeps who pin s (asks e) turned (inr h) = same h.1.1
+  takes_keeps who pin s (reads e make) turned (inl h) = call who e h.0 h.1
+  takes_keeps who pin s (reads e make) turned (inr h) = same h.1
+
+  does_keeps : (who : Who) (pin : ℕ) (s : Session) (c : Option Course) (turned : Turned) → Does (Did who) pin s c turned old new → Keeps
+  does_keeps who pin s None turned h = absurd h
+  does_keeps who pin s (Some c) turned h = takes_keeps who pin s c turned h
+
+  pub requests_keeps : (pin number session : ℕ) (form : Form) (answer : Result Done Refusal) (olds news : List Session) → Requests Did pin number session form answer olds news old new → Keeps
+  requests_keeps pin number session form answer olds news h = does_keeps (record { session = session; line = number }) pin h.before (course h.before form) (answer, h.after) h.does
+
+-- ---- what the end of all sessions keeps
+
+pub give_up_keeps :
+    {P : Type 0} (Did : Who → Event → Result Done Refusal → P → P → Type 0) (Keeps : P → P → Type 0) → ((p : P) → Keeps p p) → ((p q r : P) → Keeps p q → Keeps q r → Keeps p r) → ((who : Who) (e : Event) (a : Result Done Refusal) (p q : P) → Did who e a p q → Keeps p q)
+    → (ss : List Session) (old new : P) → GiveUp Did ss old new → Keeps old new
+give_up_keeps {P = P} Did Keeps same join call [] old new h = subst (λ (p : P). Keeps old p) (sym h) (same old)
+give_up_keeps {P = P} Did Keeps same join call (s ∷ ss) old new h = join old h.0 new (one s.open h.1) (give_up_keeps Did Keeps same join call ss h.0 new h.2)
+  where
+    one : (o : Option Open) → GivesUp (Did (record { session = s.number; line = 0 })) o old h.0 → Keeps old h.0
+    one None e = subst (λ (p : P). Keeps old p) (sym e) (same old)
+    one (Some o) e = call (record { session = s.number; line = 0 }) (event.Abort o.pin) (Ok done.Aborted) old h.0 e
+
+-- ---- an answer that blames the disk comes of a call
+
+module _ {P : Type 0} (Did : Who → Event → Result Done Refusal → P → P → Type 0) (old new : P) (Rises : Type 0) (call : (who : Who) (e : Event) (a : Result Done Refusal) → Did who e a old new → IsTrue (is_faulty a) → Rises) where
+  not_faulty : (a b : Result Done Refusal) → a ≡ b → is_faulty b ≡ false → IsTrue (is_faulty a) → Rises
+  not_faulty a b same sure is = absurd (cc (ap is_faulty same, sure, is))
+
+  makes_rises : (who : Who) (e : Event) (s : Session) (make : Done → Turned) (a : Result Done Refusal) (turned : Turned) → ((d : Done) → is_faulty (make d).0 ≡ false) → Did who e a old new → Makes (Did who) s make a turned → IsTrue (is_faulty turned.0) → Rises
+  makes_rises who e s make (Ok d) turned ok did (inl is) faulty = not_faulty turned.0 (make d).0 (ap (λ (t : Turned). t.0) is) (ok d) faulty
+  makes_rises who e s make (Ok d) turned ok did (inr is) faulty = not_faulty turned.0 (Err Memory) (ap (λ (t : Turned). t.0) is) refl faulty
+  makes_rises who e s make (Err refusal) turned ok did is faulty = call who e (Err refusal) did (subst (λ (t : Turned). IsTrue (is_faulty t.0)) is faulty)
+
+  takes_rises : (who : Who) (pin : ℕ) (s : Session) (c : Course) (turned : Turned) → IsFaultless c → Takes (Did who) pin s c turned old new → IsTrue (is_faulty turned.0) → Rises
+  takes_rises who pin s (alone answered) turned ok (inl h) faulty = not_faulty turned.0 answered.0 (ap (λ (t : Turned). t.0) h.0) ok faulty
+  takes_rises who pin s (alone answered) turned ok (inr h) faulty = not_faulty turned.0 (Err Memory) (ap (λ (t : Turned). t.0) h.0) refl faulty
+  takes_rises who pin s (asks e) turned ok (inl h) faulty = call who e turned.0 h.0 faulty
+  takes_rises who pin s (asks e) turned ok (inr h) faulty = not_faulty turned.0 (Err Memory) (ap (λ (t : Turned). t.0) h.1.0) refl faulty
+  takes_rises who pin s (reads e make) turned ok (inl h) faulty = makes_rises who e s make h.0 turned ok h.1 h.2 faulty
+  takes_rises who pin s (reads e make) turned ok (inr h) faulty = not_faulty turned.0 (Err Memory) (ap (λ (t : Turned). t.0) h.0) refl faulty
+
+  does_rises : (who : Who) (pin : ℕ) (s : Session) (c : Option Course) (turned : Turned) → IsEachFaultless c → Does (Did who) pin s c turned old new → IsTrue (is_faulty turned.0) → Rises
+  does_rises who pin s None turned ok h faulty = absurd h
+  does_rises who pin s (Some c) turned ok h faulty = takes_rises who pin s c turned ok h faulty
+
+  pub requests_rises : (pin number session : ℕ) (form : Form) (answer : Result Done Refusal) (olds news : List Session) → Requests Did pin number session form answer olds news old new → IsTrue (is_faulty answer) → Rises
+  requests_rises pin number session form answer olds news h faulty =
+      does_rises (record { session = session; line = number }) pin h.before (course h.before form) (answer, h.after) (course_faultless h.before form) h.does faulty

@@ -1,0 +1,160 @@
+-- The partition's live transactions, as the passes of sessions.
+use Rattle.std.proofs.Common.{◌≡◌, ◌⊎◌, inl, inr, ℕ, zero, suc, ◌<◌, Bool, true, false, cond, not, ◌||◌, nat_eq, nat_lt, IfSome, List, [], ◌∷◌, ◌++◌, map, length, get_or, Option, Some, None, Result, Ok, Err, refl, sym, ap, ◌∙◌, subst, arith}
+use Rattle.std.specs.Prelude.{nat_le}
+use Rattle.std.specs.List.{IsAmong}
+use Rattle.std.specs.Option.{option_map}
+use Rattle.std.proofs.lemmas.Bool.Decides.{nat_tests}
+use Rattle.std.proofs.lemmas.List.{map-append}
+use Rattle.gt_model.specs.declared.done.Done.{Done}
+use Rattle.gt_model.specs.declared.done.Done.TheVariants.{Begun}
+use Rattle.gt_model.specs.declared.event.Event.{Event}
+use Rattle.gt_model.specs.declared.event.Event.TheVariants.{Begin}
+use Rattle.gt_model.specs.declared.limits.Limits.{Limits}
+use Rattle.gt_model.specs.declared.refusal.Refusal.{Refusal}
+use Rattle.gt_model.specs.declared.refusal.Refusal.TheVariants.{RepositoryGone, ReferenceConflict, DirectoryConflict, MissingObject, Unsure, Behind, PinsFull, NoRepository}
+use Rattle.gt_model.specs.Contents.{has_repo}
+use Rattle.gt_model.specs.Machine.{Pin, State, Effect, Step, Acts, Ends, MayStop, answers, refuses, first_refusal, front, content, free_number, is_live, released, with_log}
+use Rattle.gt_part.specs.Live as part
+use Rattle.gt_part.specs.Live.{GivesPin, EndsBy}
+use Rattle.gt_part.specs.Shown.{Shown}
+use Rattle.gt_part.proofs.Pins.{free_number_free}
+use Rattle.gt_session.specs.Courses.{ends}
+use Rattle.gt_session.specs.Calls.{without, Gives, GivesPass}
+
+abbrev pub numbers : List Pin → List ℕ
+numbers pins = map (λ p. p.number) pins
+
+-- ---- what is live
+
+not_same : (k n : ℕ) → n ≡ k → nat_eq k n ≡ false → ⊥
+not_same k n same test = grind (arith, nat_tests)
+
+-- a number that is among these is live
+pub among_live : (pins : List Pin) (n : ℕ) → IsAmong (numbers pins) n → is_live pins n ≡ true
+among_live [] n h = absurd (omega (arith, h.1.0))
+among_live (p ∷ ps) n h = by (λ more. among_live ps n more) h.0 h.1.0 h.1.1 (nat_eq p.number n) refl
+  where
+    by : (IsAmong (numbers ps) n → is_live ps n ≡ true) → (i : ℕ) → i < length (numbers (p ∷ ps)) → n ≡ get_or (numbers (p ∷ ps)) i n → (b : Bool) → nat_eq p.number n ≡ b → (b || is_live ps n) ≡ true
+    by rest i lt is true test = refl
+    by rest zero lt is false test = absurd (not_same p.number n is test)
+    by rest (suc i) lt is false test = rest (i, (omega (arith, lt), is))
+
+pub is_free : (pins : List Pin) → IsAmong (numbers pins) (free_number pins) → ⊥
+is_free pins among = absurd (cc (among_live pins (free_number pins) among, free_number_free pins))
+
+pub released_numbers : (pins : List Pin) (n : ℕ) → numbers (released pins n) ≡ without (numbers pins) n
+released_numbers [] n = refl
+released_numbers (p ∷ ps) n = by (released_numbers ps n) (nat_eq p.number n)
+  where
+    by : numbers (released ps n) ≡ without (numbers ps) n → (b : Bool) → numbers (cond (not b) (p ∷ released ps n) (released ps n)) ≡ cond (not b) (p.number ∷ without (numbers ps) n) (without (numbers ps) n)
+    by rest true = rest
+    by rest false = ap (λ (l : List ℕ). p.number ∷ l) rest
+
+pub same_numbers : (old new : List Pin) → new ≡ old → numbers new ≡ numbers old
+same_numbers old new same = ap numbers same
+
+pub gone_numbers : (old new : List Pin) (n : ℕ) → new ≡ released old n → numbers new ≡ without (numbers old) n
+gone_numbers old new n same = ap numbers same ∙ released_numbers old n
+
+-- ---- a transaction that begins
+
+-- what an answer leaves of the live transactions, where a transaction begins
+abbrev Begins : List Pin → Result Done Refusal → List Pin → Type 0
+Begins old (Ok done) new = numbers new ≡ numbers old ++ free_number old ∷ []
+Begins old (Err refusal) new = new ≡ old
+
+may_stop : (e : Event) (a : Result Done Refusal) (old new : List Pin) → MayStop e a → new ≡ old → Begins old a new
+may_stop e (Err refusal) old new may same = same
+may_stop e (Ok d) old new (inl h) same = absurd (cc (h.1))
+may_stop e (Ok d) old new (inr (inl h)) same = absurd (cc (h.1))
+may_stop e (Ok d) old new (inr (inr h)) same = absurd (cc (h.3))
+
+refused_pins : (pins : List Pin) (rs : List (Bool × Refusal)) (effect : Effect) (s : State) (a : Result Done Refusal) (new : State) → pins ≡ s.pins → (Ends effect s a new → Begins s.pins a new.pins) → Ends (first_refusal pins rs effect) s a new → Begins s.pins a new.pins
+refused_pins pins [] effect s a new same ok h = ok h
+refused_pins pins (r ∷ rs) effect s a new same ok h = by (λ e. refused_pins pins rs effect s a new same ok e) r.0 h
+  where
+    by : (Ends (first_refusal pins rs effect) s a new → Begins s.pins a new.pins) → (b : Bool) → Ends (cond b (refuses r.1 pins) (first_refusal pins rs effect)) s a new → Begins s.pins a new.pins
+    by rest true e = subst (λ (x : Result Done Refusal). Begins s.pins x new.pins) (sym e.0) (ap (λ (t : State). t.pins) e.1 ∙ same)
+    by rest false e = rest e
+
+begun_pins : (limits : Limits) (s : State) (path : List ℕ) (seen : ℕ) (a : Result Done Refusal) (new : State) → Acts limits s (Begin path seen) a new → Begins s.pins a new.pins
+begun_pins limits s path seen a new (inr h) = may_stop (Begin path seen) a s.pins new.pins h.0 (ap (λ (t : State). t.pins) h.1)
+begun_pins limits s path seen a new (inl h) =
+    let begun : Pin = record { number = free_number s.pins; position = front s; path = path } in
+    refused_pins s.pins ((nat_lt (front s) seen, Behind seen (front s)) ∷ (nat_le limits.pins (length s.pins), PinsFull) ∷ (not (has_repo (content s.log) path), NoRepository) ∷ []) (answers (Begun (front s)) (s.pins ++ begun ∷ [])) s a new refl
+    (λ e. subst (λ (x : Result Done Refusal). Begins s.pins x new.pins) (sym e.0) (ap (λ (t : State). numbers t.pins) e.1 ∙ map-append (λ (p : Pin). p.number) s.pins (begun ∷ [])))
+    h
+
+begins : (limits : Limits) (s : State) (path : List ℕ) (seen : ℕ) (a : Result Done Refusal) (new : State) → Step limits s (Begin path seen) a new → Begins s.pins a new.pins
+begins limits s path seen a new (inl h) = begun_pins limits (with_log s h.0) path seen a new h.2
+begins limits s path seen a new (inr h) = may_stop (Begin path seen) a s.pins new.pins h.0 (ap (λ (t : State). t.pins) h.1)
+
+pub begun_pass : (limits : Limits) (s : State) (path : List ℕ) (seen : ℕ) (a : Result Done Refusal) (new : State) (pass : Option ℕ) → Step limits s (Begin path seen) a new → GivesPin a pass (free_number s.pins)
+    → GivesPass a (option_map (λ n. n) pass) (free_number s.pins) (numbers s.pins) (numbers new.pins)
+begun_pass limits s path seen a new pass step gives = by a gives (begins limits s path seen a new step)
+  where
+    by : (x : Result Done Refusal) → GivesPin x pass (free_number s.pins) → Begins s.pins x new.pins → GivesPass x (option_map (λ n. n) pass) (free_number s.pins) (numbers s.pins) (numbers new.pins)
+    by (Ok d) given live = record { given = ap (option_map (λ n. n)) given; free = is_free s.pins; live = live }
+    by (Err refusal) none live = record { none = ap (option_map (λ n. n)) none; live = ap numbers live }
+
+-- ---- a commit
+
+ends_same : (a : Result Done Refusal) → part.ends a ≡ ends a
+ends_same (Ok done) = refl
+ends_same (Err RepositoryGone) = refl
+ends_same (Err (ReferenceConflict name expected actual)) = refl
+ends_same (Err (DirectoryConflict name existing)) = refl
+ends_same (Err (MissingObject name needer)) = refl
+ends_same (Err (Unsure position)) = refl
+ends_same (Err refusal) = refl
+
+module _ (a : Result Done Refusal) (before pass : Option ℕ) (old new : List Pin) (by_part : IfSome before (λ n. EndsBy a n pass old new)) (some : before ≡ None → ⊥) where
+  abbrev Splits : Bool → Option ℕ → Type 0
+  Splits b (Some n) = part.Ended b n pass old new
+  Splits b None = ⊥
+
+  splits : (b : Bool) → part.ends a ≡ b → Splits b before
+  splits b is = at before by_part some
+    where
+      at : (o : Option ℕ) → IfSome o (λ n. EndsBy a n pass old new) → (o ≡ None → ⊥) → Splits b o
+      at None h none = none refl
+      at (Some n) h none = subst (λ (x : Bool). part.Ended x n pass old new) is h
+
+  pub pass_ended : ends a ≡ true → (pass ≡ None) × IfSome before (λ n. numbers new ≡ without (numbers old) n)
+  pass_ended is = at before (splits true (ends_same a ∙ is))
+    where
+      at : (o : Option ℕ) → Splits true o → (pass ≡ None) × IfSome o (λ n. numbers new ≡ without (numbers old) n)
+      at None h = absurd h
+      at (Some n) h = (h.0, gone_numbers old new n h.1)
+
+  pub pass_stays : ends a ≡ false → (pass ≡ before) × (numbers new ≡ numbers old)
+  pass_stays is = at before (splits false (ends_same a ∙ is))
+    where
+      at : (o : Option ℕ) → Splits false o → (pass ≡ o) × (numbers new ≡ numbers old)
+      at None h = absurd h
+      at (Some n) h = (h.0, ap numbers h.1)
+
+-- ---- the partition inside, which is seen as this one
+
+module _ {D : Type 0} (inside seen : Shown D) (is : inside ≡ seen) where
+  pub held_live : (n : ℕ) → IsAmong (numbers seen.state.pins) n → is_live inside.state.pins n ≡ true
+  held_live n among = among_live inside.state.pins n (subst (λ (p : Shown D). IsAmong (numbers p.state.pins) n) (sym is) among)
+
+  pub held_some : (pass : Option ℕ) → IfSome pass (λ n. IsAmong (numbers seen.state.pins) n) → IfSome pass (λ n. is_live inside.state.pins n ≡ true)
+  held_some None h = tt
+  held_some (Some n) h = held_live n h
+
+  pub gone_seen : (new : List Pin) (n : ℕ) → new ≡ released inside.state.pins n → numbers new ≡ without (numbers seen.state.pins) n
+  gone_seen new n same = gone_numbers seen.state.pins new n (subst (λ (p : Shown D). new ≡ released p.state.pins n) is same)
+
+  pub begun_seen : (limits : Limits) (path : List ℕ) (seen_position : ℕ) (a : Result Done Refusal) (new : State) (pass : Option ℕ) → Step limits inside.state (Begin path seen_position) a new → GivesPin a pass (free_number inside.state.pins)
+      → GivesPass a (option_map (λ n. n) pass) (free_number seen.state.pins) (numbers seen.state.pins) (numbers new.pins)
+  begun_seen limits path seen_position a new pass step gives =
+      subst (λ (p : Shown D). GivesPass a (option_map (λ n. n) pass) (free_number p.state.pins) (numbers p.state.pins) (numbers new.pins)) is (begun_pass limits inside.state path seen_position a new pass step gives)
+
+  module _ (a : Result Done Refusal) (before pass : Option ℕ) (new : List Pin) (by_part : IfSome before (λ n. EndsBy a n pass inside.state.pins new)) (some : before ≡ None → ⊥) where
+    pub ended_seen : ends a ≡ true → (pass ≡ None) × IfSome before (λ n. numbers new ≡ without (numbers seen.state.pins) n)
+    ended_seen e = pass_ended a before pass seen.state.pins new (subst (λ (p : Shown D). IfSome before (λ n. EndsBy a n pass p.state.pins new)) is by_part) some e
+
+    pub stays_seen : ends a ≡ false → (pass ≡ before) × (numbers new ≡ numbers seen.state.pins)
+    stays_seen e = pass_stays a before pass seen.state.pins new (subst (λ (p : Shown D). IfSome before (λ n. EndsBy a n pass p.state.pins new)) is by_part) some e

@@ -1,0 +1,79 @@
+ghost use Rattle.std.specs.Prelude.{◌≡◌};
+
+use gt_disk::Disk;
+use gt_model::{Answer, Who};
+use gt_name::{Name, RefName, RepoPath};
+use gt_part::{Partition, Pin};
+use gt_session::Parts;
+use gt_stage::Stage;
+use std::alloc::Global;
+use std::marker::Model;
+
+/// A partition in the program's own hands, as the sessions see it.
+#[derive(Drop)]
+pub(crate) struct Local<D: Disk + Drop> {
+    pub(crate) partition: Partition<D>,
+}
+
+impl<D: Disk + Drop> Model for Local<D> {
+    ghost use Rattle.gt_part.specs.Shown.{Shown};
+
+    ghost Value = { Shown D };
+
+    ghost view = { λ local. local.partition };
+}
+
+impl<D: Disk + Drop> Parts for Local<D> {
+    type Pass = Pin;
+
+    ghost use Rattle.std.specs.Prelude.{map};
+    ghost use Rattle.gt_model.specs.Machine.{free_number};
+    ghost use Rattle.gt_part.specs.Called.{Called};
+
+    ghost number = { λ pin. pin };
+
+    ghost live = { λ local. map (λ p. p.number) local.state.pins };
+
+    ghost next = { λ local. free_number local.state.pins };
+
+    ghost did = { λ who event answer old new. Called D.tells D.view D.fault_count who event answer old new };
+
+    fn create(&mut self, alloc: Global, who: Who, path: &RepoPath, pool: bool) -> Answer {
+        self.partition.create(alloc, who, path, pool)
+    }
+
+    fn delete(&mut self, alloc: Global, who: Who, path: &RepoPath) -> Answer {
+        self.partition.delete(alloc, who, path)
+    }
+
+    fn begin(
+        &mut self,
+        alloc: Global,
+        who: Who,
+        path: &RepoPath,
+        seen: u64,
+        pass: &mut Option<Pin>,
+    ) -> Answer {
+        self.partition.begin(alloc, who, path, seen, pass)
+    }
+
+    fn get_ref(&mut self, alloc: Global, who: Who, pass: &Pin, name: &RefName) -> Answer {
+        self.partition.get_ref(alloc, who, pass, name)
+    }
+
+    fn list_refs(&mut self, alloc: Global, who: Who, pass: &Pin, prefix: &[u8]) -> Answer {
+        self.partition.list_refs(alloc, who, pass, prefix)
+    }
+
+    fn cat(&mut self, alloc: Global, who: Who, pass: &Pin, name: &Name) -> Answer {
+        self.partition.cat(alloc, who, pass, name)
+    }
+
+    fn commit(&mut self, alloc: Global, who: Who, pass: &mut Option<Pin>, stage: &Stage) -> Answer {
+        self.partition.commit(alloc, who, pass, stage)
+    }
+
+    fn abort(&mut self, who: Who, pass: Pin) -> Answer {
+        self.partition.abort(who, pass)
+    }
+}
