@@ -1,5 +1,7 @@
 pub mod TrackLaws
 pub mod UpdateLaws
+pub mod WriteLaws
+pub mod CurrentLaws
 pub mod LifeSteps
 pub mod TableLaws
 pub mod RefsLaws

@@ -17,9 +17,9 @@ use Rattle.gt_model.specs.declared.change.Change.TheVariants.{Create, Delete, Li
 use Rattle.gt_versions.specs.Versions.{last_at}
 use Rattle.gt_versions.specs.Lives.{value_since}
 use Rattle.gt_versions.proofs.Keys.{at_key, get_key, key_cmp-IsAntisymmetric}
-use Rattle.gt_slots.specs.Present.{present}
+use Rattle.gt_slots.specs.Present.{present, refs_since}
 use Rattle.gt_slots.specs.Slots.{items_of}
-use Rattle.gt_reftable.specs.Tracks.{Track, start, step_new, step_updates}
+use Rattle.gt_reftable.specs.Tracks.{Track, start, refs_of, IsInStep, step_new, step_updates}
 use Rattle.gt_reftable.specs.Table.{track_refs, track_value, refs_at, refs_change, refs_after, step_here, step_entry, Adds, IsSameTable, IsEmpty, Steps, Same}
 
 pub same_refs : (m n : Names) → ((x : List ℕ) → map.get m x ≡ map.get n x) → m ≡ n
@@ -73,12 +73,22 @@ module _ (c p : ℕ) where
       by_test rest false t (Some w) s = ap (λ o. find key_cmp q (cons o)) s ∙ ap (λ b. cond b (Some w) (find key_cmp q (present c p es))) t ∙ rest
       by_test rest false t None s = ap (λ o. find key_cmp q (cons o)) s ∙ rest
 
+pub get-refs_since : (c p : ℕ) (m : map.FinMap key_cmp (List (ℕ × Option (List ℕ)) × ℕ)) (x : List ℕ) → map.get (refs_since c p m) x ≡ value_since c (last_at (items_of (map.get m x)) p None)
+get-refs_since c p m x =
+    get-from_entries nat_list_cmp_total (present c p (map.entries m)) x
+    ∙ find-present c p (map.entries m) (entries_sorted m) x
+    ∙ ap (λ s. value_since c (last_at (items_of s) p None)) (sym (get-entries m x))
+
 pub get-track_refs : (s : Option Track) (p : ℕ) (x : List ℕ) → map.get (track_refs s p) x ≡ track_value s p x
 get-track_refs None p x = get-empty key_cmp x
-get-track_refs (Some t) p x =
-    get-from_entries nat_list_cmp_total (present (start t p) p (map.entries t.refs)) x
-    ∙ find-present (start t p) p (map.entries t.refs) (entries_sorted t.refs) x
-    ∙ ap (λ s. value_since (start t p) (last_at (items_of s) p None)) (sym (get-entries t.refs x))
+get-track_refs (Some t) p x = get-refs_since (start t p) p t.refs x
+
+-- the newest references are those that are apart
+pub newest_refs : (q : ℕ) (t : Track) → IsInStep q t → refs_since 0 q t.current ≡ refs_of t q
+newest_refs q t h = same_refs _ _ (λ x. get-refs_since 0 q t.current x ∙ h.newest x ∙ sym (get-refs_since (start t q) q t.refs x))
+
+pub no_refs : (p : ℕ) → refs_since 0 p map.empty ≡ map.empty
+no_refs p = same_refs _ _ (λ x. get-refs_since 0 p map.empty x ∙ ap (λ s. value_since 0 (last_at (items_of s) p None)) (get-empty key_cmp x) ∙ sym (get-empty key_cmp x))
 
 -- ---- what an entry does
 

@@ -11,33 +11,59 @@ use Rattle.gt_versions.proofs.Keys.{at_key, at_key-same, get_key, flip}
 use Rattle.gt_versions.proofs.LifeLaws.{start_of-le}
 use Rattle.gt_slots.specs.Slots as slots
 use Rattle.gt_slots.specs.Slots.{items_of, PutsRef}
-use Rattle.gt_reftable.specs.Tracks.{Track, start, value_in, IsTrackUpTo}
+use Rattle.gt_reftable.specs.Tracks.{Track, start, value_in, named_at, IsTrackUpTo}
 use Rattle.gt_reftable.specs.Tracks as tracks
 use Rattle.gt_reftable.specs.Table.{track_refs, AllUpTo, IsSlotUpTo, Changed, Same, SeedsHere, SeedsAt, Seeds, IsSameTable}
-use Rattle.gt_reftable.proofs.TrackLaws.{upto_put}
+use Rattle.gt_reftable.proofs.TrackLaws.{roomier_same, upto_put}
 use Rattle.gt_reftable.proofs.UpdateLaws.{put_since}
 use Rattle.gt_reftable.proofs.RefsLaws.{same_refs, get-track_refs, same_table}
-use Rattle.gt_reftable.proofs.TableLaws.{same_slot, same_everywhere, same_roomier, up_of_tree}
+use Rattle.gt_reftable.proofs.TableLaws.{same_slot, same_everywhere, same_roomier, unborn, unborn_up, up_of_tree}
 
 -- room is taken, and the value put in it
-pub seeded : (lives : List (ℕ × Bool) × ℕ) (q : ℕ) (name v : List ℕ) (old mid new : FinMap key_cmp (List (ℕ × Option (List ℕ)) × ℕ)) → IsTrackUpTo q (record { lives = lives; refs = old }) → slots.IsRoomier old mid → PutsRef q name (Some v) mid new
-    → tracks.Seeds q name v (record { lives = lives; refs = old }) (record { lives = lives; refs = new })
-seeded lives q name v old mid new up r h = record {
-  value = λ x.
-      put_since q q (start_of (last_at lives.0 q None)) name x (Some v) mid new h (start_of-le q q lives.0 up.lives) (omega arith)
-      ∙ ap (λ es. cond (eq_by_cmp key_cmp x name) (Some v) (value_since (start_of (last_at lives.0 q None)) (last_at es q None))) (r.items x);
-  newest = record { lives = up.lives; refs = upto_put q name (Some v) mid new h (λ x. let P : List (ℕ × Option (List ℕ)) → Type 0 = λ es. IsUpTo q es in subst P (sym (r.items x)) (up.refs x)) };
-}
+module _ (lives : List (ℕ × Bool) × ℕ) (q : ℕ) (name v : List ℕ) (old mid new old1 mid1 new1 : FinMap key_cmp (List (ℕ × Option (List ℕ)) × ℕ))
+    (up : IsTrackUpTo q (record { lives = lives; refs = old; current = old1 }))
+    (r : slots.IsRoomier old mid) (h : PutsRef q name (Some v) mid new) (r1 : slots.IsRoomier old1 mid1) (h1 : PutsRef q name (Some v) mid1 new1) where
+  seeded_value : (x : List ℕ) → value_in (record { lives = lives; refs = new; current = new1 }) q x ≡ cond (eq_by_cmp key_cmp x name) (Some v) (value_in (record { lives = lives; refs = old; current = old1 }) q x)
+  seeded_value x =
+      put_since q q (start_of (last_at lives.0 q None)) name x (Some v) mid new h (start_of-le q q lives.0 up.values.lives) (omega arith)
+      ∙ ap (λ es. cond (eq_by_cmp key_cmp x name) (Some v) (value_since (start_of (last_at lives.0 q None)) (last_at es q None))) (r.items x)
 
-pub mid_up : (lives : List (ℕ × Bool) × ℕ) (q : ℕ) (name : List ℕ) (old mid : FinMap key_cmp (List (ℕ × Option (List ℕ)) × ℕ)) → IsTrackUpTo q (record { lives = lives; refs = old }) → slots.IsRoomier old mid → IsUpTo q (items_of (map.get mid name))
-mid_up lives q name old mid up r = let P : List (ℕ × Option (List ℕ)) → Type 0 = λ es. IsUpTo q es in subst P (sym (r.items name)) (up.refs name)
+  seeded_gone : (x : List ℕ) → value_in (record { lives = lives; refs = new; current = new1 }) q x ≡ None → items_of (map.get new1 x) ≡ []
+  seeded_gone x e = by (eq_by_cmp key_cmp x name) refl
+    where
+      by : (b : Bool) → eq_by_cmp key_cmp x name ≡ b → items_of (map.get new1 x) ≡ []
+      by true t =
+          let no : Some v ≡ None = sym (ap (λ b. cond b (Some v) (value_in (record { lives = lives; refs = old; current = old1 }) q x)) t) ∙ sym (seeded_value x) ∙ e in
+          let bad : ⊥ = cc in
+          absurd bad
+      by false t =
+          ap items_of (h1.others x (flip name x ∙ t)) ∙ r1.items x
+          ∙ up.gone x (sym (ap (λ b. cond b (Some v) (value_in (record { lives = lives; refs = old; current = old1 }) q x)) t) ∙ sym (seeded_value x) ∙ e)
+
+  pub seeded : tracks.Seeds q name v (record { lives = lives; refs = old; current = old1 }) (record { lives = lives; refs = new; current = new1 })
+  seeded = record {
+    value = seeded_value;
+    newest = record {
+      values = record {
+        lives = up.values.lives;
+        refs = upto_put q name (Some v) mid new h (λ x. let P : List (ℕ × Option (List ℕ)) → Type 0 = λ es. IsUpTo q es in subst P (sym (r.items x)) (up.values.refs x));
+        current = upto_put q name (Some v) mid1 new1 h1 (λ x. let P : List (ℕ × Option (List ℕ)) → Type 0 = λ es. IsUpTo q es in subst P (sym (r1.items x)) (up.values.current x));
+        newest = λ x.
+            put_since q q 0 name x (Some v) mid1 new1 h1 (omega arith) (omega arith)
+            ∙ ap (λ es. cond (eq_by_cmp key_cmp x name) (Some v) (named_at q es)) (r1.items x)
+            ∙ ap (cond (eq_by_cmp key_cmp x name) (Some v)) (up.values.newest x)
+            ∙ sym (seeded_value x);
+      };
+      gone = seeded_gone;
+    };
+  }
+
+pub mid_up : (q : ℕ) (name : List ℕ) (old mid : FinMap key_cmp (List (ℕ × Option (List ℕ)) × ℕ)) → IsUpTo q (items_of (map.get old name)) → slots.IsRoomier old mid → IsUpTo q (items_of (map.get mid name))
+mid_up q name old mid up r = let P : List (ℕ × Option (List ℕ)) → Type 0 = λ es. IsUpTo q es in subst P (sym (r.items name)) up
 
 -- a repository that wasn't known had no reference
-pub empty_up : (q : ℕ) (t : Track) → t.lives.0 ≡ [] → t.refs ≡ map.empty → IsTrackUpTo q t
-empty_up q t l m = record {
-  lives = let P : List (ℕ × Bool) → Type 0 = λ es. IsUpTo q es in subst P (sym l) tt;
-  refs = λ x. let P : Option (List (ℕ × Option (List ℕ)) × ℕ) → Type 0 = λ s. IsUpTo q (items_of s) in subst P (sym (ap (λ n. map.get n x) m ∙ get-empty key_cmp x)) tt;
-}
+pub empty_up : (q : ℕ) (t : Track) → t.lives.0 ≡ [] → t.refs ≡ map.empty → t.current ≡ map.empty → IsTrackUpTo q t
+empty_up q t l m n = unborn_up q t (unborn t t l m n (roomier_same t))
 
 empty_value : (q : ℕ) (x : List ℕ) (t : Track) → t.refs ≡ map.empty → value_in t q x ≡ None
 empty_value q x t m = ap (λ s. value_since (start t q) (last_at (items_of s) q None)) (ap (λ n. map.get n x) m ∙ get-empty key_cmp x)

@@ -14,7 +14,7 @@ use Rattle.gt_versions.specs.Lives.{start_of, value_since}
 use Rattle.gt_versions.proofs.Keys.{at_key, at_key-same, get_key, flip, spread}
 use Rattle.gt_versions.proofs.VersionLaws.{upto_more}
 use Rattle.gt_slots.specs.Slots.{items_of}
-use Rattle.gt_reftable.specs.Tracks.{Track, IsTrackUpTo, PutsLife, Moves, HasRoom, IsRoomier, step_updates}
+use Rattle.gt_reftable.specs.Tracks.{Track, start, named_at, IsTrackUpTo, PutsLife, Moves, HasRoom, IsRoomier, step_updates}
 use Rattle.gt_reftable.specs.Table.{track_value, AllUpTo, IsSlotUpTo, step_here, step_entry, RoomHere, Changed, Steps, Same, IsUnborn, HasRoomHere}
 use Rattle.gt_reftable.proofs.TrackLaws.{up_more, value_past, roomier_value, roomier_up}
 use Rattle.gt_reftable.proofs.LifeSteps.{life_now, life_before, life_newest}
@@ -25,7 +25,7 @@ slot_more q r (Some t) l h = up_more q r t l h
 
 pub slot_past : (q p : ℕ) (s : Option Track) (x : List ℕ) → q ≤ p → IsSlotUpTo q s → track_value s p x ≡ track_value s q x
 slot_past q p None x l h = refl
-slot_past q p (Some t) x l h = value_past q p t x l h
+slot_past q p (Some t) x l h = value_past q p t x l h.values
 
 -- ---- steps at the entry's repository
 
@@ -52,7 +52,7 @@ write_here front us refs needed records ch old new e same room up h =
     here None new room up h = absurd room
     here (Some r) None room up h = absurd h
     here (Some r) (Some s) room up h = record {
-      next = λ x. h.since_q (front + 1) x (omega arith) ∙ ap (step_updates refs x) (value_past front (front + 1) r x (omega arith) up);
+      next = λ x. h.since_q (front + 1) x (omega arith) ∙ ap (step_updates refs x) (value_past front (front + 1) r x (omega arith) up.values);
       earlier = λ p x l. h.earlier p x (omega arith);
       newest = h.newest;
     }
@@ -96,23 +96,35 @@ same_roomier None (Some s) h = let no : ⊥ = cc in absurd no
 same_roomier (Some r) None h = absurd h
 same_roomier (Some r) (Some s) h = record { value = λ p x. roomier_value r s h p x; newest = λ q up. roomier_up q r s h up }
 
+pub unborn_up : (q : ℕ) (s : Track) → IsUnborn s → IsTrackUpTo q s
+unborn_up q s h = record {
+  values = record {
+    lives = let P : List (ℕ × Bool) → Type 0 = λ es. IsUpTo q es in subst P (sym h.lives) tt;
+    refs = λ x. let P : List (ℕ × Option (List ℕ)) → Type 0 = λ es. IsUpTo q es in subst P (sym (h.refs x)) tt;
+    current = λ x. let P : List (ℕ × Option (List ℕ)) → Type 0 = λ es. IsUpTo q es in subst P (sym (h.current x)) tt;
+    newest = λ x. ap (named_at q) (h.current x) ∙ sym (ap (λ es. value_since (start s q) (last_at es q None)) (h.refs x));
+  };
+  gone = λ x e. h.current x;
+}
+
 pub same_unborn : (old new : Option Track) → old ≡ None → IfSome new IsUnborn → Same old new
 same_unborn (Some r) new e h = let no : ⊥ = cc in absurd no
 same_unborn None None e h = same_slot None
 same_unborn None (Some s) e h = record {
   value = λ p x. ap (λ es. value_since (start_of (last_at s.lives.0 p None)) (last_at es p None)) (h.refs x);
-  newest = λ q up. record {
-    lives = let P : List (ℕ × Bool) → Type 0 = λ es. IsUpTo q es in subst P (sym h.lives) tt;
-    refs = λ x. let P : List (ℕ × Option (List ℕ)) → Type 0 = λ es. IsUpTo q es in subst P (sym (h.refs x)) tt;
-  };
+  newest = λ q up. unborn_up q s h;
 }
 
-pub unborn : (r s : Track) → r.lives.0 ≡ [] → r.refs ≡ map.empty → IsRoomier r s → IsUnborn s
-unborn r s l m h = record { lives = h.lives ∙ l; refs = λ x. h.refs.items x ∙ ap (λ n. items_of (map.get n x)) m ∙ ap items_of (get-empty key_cmp x) }
+pub unborn : (r s : Track) → r.lives.0 ≡ [] → r.refs ≡ map.empty → r.current ≡ map.empty → IsRoomier r s → IsUnborn s
+unborn r s l m n h = record {
+  lives = h.lives ∙ l;
+  refs = λ x. h.refs.items x ∙ ap (λ k. items_of (map.get k x)) m ∙ ap items_of (get-empty key_cmp x);
+  current = λ x. h.current.items x ∙ ap (λ k. items_of (map.get k x)) n ∙ ap items_of (get-empty key_cmp x);
+}
 
 pub after_lives : (front : ℕ) (s : Option Track) → IsSlotUpTo front s → IfSome s (λ r. IsUpTo (front + 1) r.lives.0)
 after_lives front None h = tt
-after_lives front (Some r) h = upto_more front (front + 1) r.lives.0 (omega arith) h.lives
+after_lives front (Some r) h = upto_more front (front + 1) r.lives.0 (omega arith) h.values.lives
 
 pub after_slot : (front : ℕ) (s : Option Track) → IsSlotUpTo front s → IfSome s (IsTrackUpTo (front + 1))
 after_slot front None h = tt

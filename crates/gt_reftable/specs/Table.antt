@@ -135,6 +135,7 @@ pub record Same (old new : Option Track) : Type 0 where
 pub record IsUnborn (t : Track) : Type 0 where
   pub lives : t.lives.0 ≡ []
   pub refs : (x : List ℕ) → items_of (map.get t.refs x) ≡ []
+  pub current : (x : List ℕ) → items_of (map.get t.current x) ≡ []
 
 -- the repository is known, and has room for these updates at each position
 abbrev pub HasRoomHere : List RefUpdate → Option Track → Type 0

@@ -2,6 +2,7 @@
 #![tactic(auto)]
 
 mod adding;
+mod current;
 mod laws;
 mod preparing;
 mod repo;

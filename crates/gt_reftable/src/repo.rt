@@ -1,12 +1,14 @@
-ghost use Rattle.std.specs.Prelude.{◌≡◌, ℕ, IsTrue, IfOk, OnOk, OnErr, [], not, ◌&&◌, find};
+ghost use Rattle.std.specs.Prelude.{◌≡◌, ◌≤◌, ◌<◌, ℕ, List, false, IsTrue, IfOk, OnOk, OnErr, [], not, ◌&&◌, find};
 ghost use Rattle.std.specs.FinMap as map;
 ghost use Rattle.std.specs.List.{list_any};
 ghost use Rattle.std.specs.Option.{option_copied};
 ghost use Rattle.gt_model.specs.Verdicts.{clashes, same_name};
 ghost use Rattle.gt_model.specs.Machine.{references};
 ghost use Rattle.gt_versions.specs.Versions.{IsUpTo, ready};
-ghost use Rattle.gt_reftable.specs.Tracks.{value_in, refs_of, IsTrackUpTo, given, step_updates, HasPlace, HasRoom, IsRoomier, Moves, PutsLife, PutsUpdate, Seeds};
+ghost use Rattle.gt_slots.specs.Slots.{items_of};
+ghost use Rattle.gt_reftable.specs.Tracks.{value_in, refs_of, IsInStep, IsTrackUpTo, given, step_updates, is_named, HasPlace, HasRoom, IsRoomier, Moves, PutsLife, PutsUpdate, Seeds};
 
+use crate::current::Current;
 use gt_list::NoMemory;
 use gt_model::{RefList, RefUpdate};
 use gt_name::{Name, Names2, RefName};
@@ -15,11 +17,13 @@ use gt_versions::Versions;
 use std::alloc::Global;
 use std::marker::Model;
 
-/// When a repository was made or deleted, and its references.
+/// When a repository was made or deleted, and its references: all that were written, and apart those that are there at the
+/// newest position.
 #[derive(Debug, Drop)]
 pub struct Repo {
     lives: Versions<bool>,
     refs: Slots,
+    current: Current,
 }
 
 impl Model for Repo {
@@ -29,7 +33,7 @@ impl Model for Repo {
 
     ghost coded = { track_code };
 
-    ghost view = { λ r. record { lives = r.lives; refs = r.refs } };
+    ghost view = { λ r. record { lives = r.lives; refs = r.refs; current = r.current } };
 }
 
 impl Repo {
@@ -37,10 +41,12 @@ impl Repo {
     pub fn new(alloc: Global) -> Repo
         ensures lives { result.lives.0 ≡ [] }
         ensures refs { result.refs ≡ map.empty }
+        ensures current { result.current ≡ map.empty }
     {
         Repo {
             lives: Versions::new(alloc),
             refs: Slots::new(alloc),
+            current: Current::new(alloc),
         }
     }
 
@@ -51,7 +57,7 @@ impl Repo {
         self.refs.value(self.lives.start(position), position, name)
     }
 
-    /// The references at a position whose names begin so, ascending.
+    /// The references at a position whose names begin so, ascending. It passes all that were ever written.
     pub fn list(&self, alloc: Global, position: u64, prefix: &[u8]) -> Result<RefList, NoMemory>
         ensures { IfOk result (λ l. l ≡ references (refs_of self.now position) prefix.now) }
     {
@@ -59,13 +65,35 @@ impl Repo {
             .list(alloc, self.lives.start(position), position, prefix)
     }
 
+    /// The references at the newest position whose names begin so, ascending. It passes none that was
+    /// deleted.
+    pub fn list_newest(
+        &self,
+        alloc: Global,
+        position: u64,
+        prefix: &[u8],
+    ) -> Result<RefList, NoMemory>
+        requires { IsTrackUpTo position self.now }
+        ensures { IfOk result (λ l. l ≡ references (refs_of self.now position) prefix.now) }
+    {
+        self.current.list(alloc, position, prefix)
+    }
+
     /// The least reference at a position that stands in the folder of `name`, or in whose folder `name` stands, and that
-    /// isn't gone.
+    /// isn't gone. It passes all that were ever written in that folder.
     pub fn clash(&self, position: u64, name: &RefName, gone: &Names2) -> Option<&RefName>
         ensures { option_copied result ≡ find (λ other. clashes name.now other && not (list_any (same_name other) gone.now)) (map.keys (refs_of self.now position)) }
     {
         self.refs
             .clash(self.lives.start(position), position, name, gone)
+    }
+
+    /// `clash` at the newest position. It passes no reference that was deleted.
+    pub fn clash_newest(&self, position: u64, name: &RefName, gone: &Names2) -> Option<&RefName>
+        requires { IsTrackUpTo position self.now }
+        ensures { option_copied result ≡ find (λ other. clashes name.now other && not (list_any (same_name other) gone.now)) (map.keys (refs_of self.now position)) }
+    {
+        self.current.clash(position, name, gone)
     }
 
     /// It is made or deleted at a position, in room that was taken before.
@@ -75,6 +103,7 @@ impl Repo {
         ensures { PutsLife position there self.old self.new }
     {
         self.lives.put(position, there);
+        self.current.clear();
     }
 
     /// Makes updates from a position on, in room that was taken before.
@@ -82,6 +111,20 @@ impl Repo {
         requires after { IsTrackUpTo position self.old }
         requires room { HasRoom position self.old updates.now }
         ensures { Moves position (step_updates updates.now) self.old self.new }
+    {
+        self.put_updates(position, updates);
+        self.current.trim(position, updates);
+    }
+
+    /// Puts the values of updates. What is deleted stays among the newest for now, with no value, so that a further update of
+    /// it finds its room.
+    fn put_updates(&mut self, position: u64, updates: &[RefUpdate])
+        requires after { IsInStep position self.old }
+        requires room { HasRoom position self.old updates.now }
+        ensures since { (p : ℕ) (x : List ℕ) → position ≤ p → value_in self.new p x ≡ step_updates updates.now x (value_in self.old p x) }
+        ensures earlier { (p : ℕ) (x : List ℕ) → p < position → value_in self.new p x ≡ value_in self.old p x }
+        ensures newest { IsInStep position self.new }
+        ensures others { (x : List ℕ) → is_named x updates.now ≡ false → items_of (map.get self.new.current x) ≡ items_of (map.get self.old.current x) }
     {
         for update in updates {
             self.put_update(position, update);
@@ -124,17 +167,22 @@ impl Repo {
         if let Err(error) = self.refs.prepare(alloc, name) {
             return Err(error);
         }
+        if let Err(error) = self.current.prepare(alloc, name) {
+            return Err(error);
+        }
         self.refs.put(position, name, Some(value));
+        self.current.put(position, name, Some(value));
         Ok(())
     }
 
     fn put_update(&mut self, position: u64, update: &RefUpdate)
-        requires after { IsTrackUpTo position self.old }
+        requires after { IsInStep position self.old }
         requires room { HasPlace position self.old update.now.name update.now.new }
         ensures { PutsUpdate position update.now self.old self.new }
     {
         if let Some(new) = update.new {
             self.refs.put(position, &update.name, given(new));
+            self.current.put(position, &update.name, given(new));
         }
     }
 
@@ -145,7 +193,10 @@ impl Repo {
         if update.new.is_none() {
             return Ok(());
         }
-        self.refs.prepare(alloc, &update.name)
+        if let Err(error) = self.refs.prepare(alloc, &update.name) {
+            return Err(error);
+        }
+        self.current.prepare(alloc, &update.name)
     }
 }
 

@@ -92,7 +92,8 @@ impl RefTable {
     }
 
     /// The references of a repository at a position whose names begin so, ascending by name. None where the repository
-    /// isn't there.
+    /// isn't there. At the front it passes no reference that was deleted, and none of an earlier life of the repository; at
+    /// an earlier position it passes all that were written since the floor and whose names begin so.
     pub fn list(
         &self,
         alloc: Global,
@@ -106,12 +107,20 @@ impl RefTable {
     {
         match self.repos.get(path) {
             None => Ok(RefList::new(alloc)),
-            Some(repo) => repo.list(alloc, at, prefix),
+            Some(repo) => {
+                if at == self.front {
+                    repo.list_newest(alloc, at, prefix)
+                } else {
+                    repo.list(alloc, at, prefix)
+                }
+            }
         }
     }
 
     /// The least reference of a repository at a position that stands in the folder of `name`, or in whose folder `name`
-    /// stands, and that isn't gone. It takes no memory.
+    /// stands, and that isn't gone. It takes no memory. At the front it passes no reference that was deleted, and none of
+    /// an earlier life of the repository, so that it costs a logarithm for each folder of the name, and a step for each that
+    /// is gone; at an earlier position it passes all that were written in that folder since the floor.
     pub fn clash(&self, at: u64, path: &RepoPath, name: &RefName, gone: &Names2) -> Option<&RefName>
         requires from { self.now.floor ≤ at }
         requires to { at ≤ self.now.front }
@@ -119,7 +128,13 @@ impl RefTable {
     {
         match self.repos.get(path) {
             None => None,
-            Some(repo) => repo.clash(at, name, gone),
+            Some(repo) => {
+                if at == self.front {
+                    repo.clash_newest(at, name, gone)
+                } else {
+                    repo.clash(at, name, gone)
+                }
+            }
         }
     }
 

@@ -351,3 +351,131 @@ fn is_text(found: &Result<Vec<u8>, NoMemory>, text: &str) -> bool {
         Err(_) => false,
     }
 }
+
+// As many references in one folder, each written at a position of its own, and then the first ones deleted, one by one.
+fn deleted_first(alloc: Global, written: u64, deleted: u64) -> Result<RefTable, NoMemory> {
+    let mut table = RefTable::start(alloc, 0)?;
+    for number in 0..written {
+        write_topic(&mut table, alloc, number, ONE)?;
+    }
+    for number in 0..deleted {
+        write_topic(&mut table, alloc, number, Name::ZERO)?;
+    }
+    Ok(table)
+}
+
+fn write_topic(
+    table: &mut RefTable,
+    alloc: Global,
+    number: u64,
+    value: Name,
+) -> Result<(), NoMemory> {
+    let Ok(text) = format!(in alloc; "refs/heads/topic/{number:04}") else {
+        return Err(NoMemory);
+    };
+    write(table, alloc, "a.git", text.as_str(), Some(value))
+}
+
+#[test]
+fn deleted_references_are_out_of_the_way(rt: HostRuntime) -> Result<(), Fail> {
+    let alloc = rt.alloc();
+    let rows = [
+        (0, 600, "refs/heads/topic/0000", 600),
+        (599, 600, "refs/heads/topic/0000", 600),
+        (599, 900, "refs/heads/topic/0300", 300),
+        (599, 1199, "refs/heads/topic/0599", 1),
+        (600, 1199, "refs/heads/topic/0599", 1),
+        (600, 1200, "", 0),
+    ];
+    for (deleted, at, least, count) in rows {
+        let Ok(table) = deleted_first(alloc, 600, deleted) else {
+            return Err(Fail::from("no memory"));
+        };
+        let found = clash(&table, alloc, at, "refs/heads/topic", "");
+        assert!(rt; is_text(&found, least), "{deleted} deleted, at {at}");
+        let left = listed(&table, alloc, at, "a.git", "refs/heads/");
+        assert_eq!(rt; left, Ok(count), "{deleted} deleted, at {at}");
+    }
+    Ok(())
+}
+
+// The first entries of a repository with three lives: a reference at 1, which goes with the repository at 2; one in its
+// folder at 4, which goes at 5; and a tag at 7.
+fn three_lives(alloc: Global, entries: u64) -> Result<RefTable, NoMemory> {
+    let mut table = RefTable::start(alloc, 0)?;
+    for number in 1..=entries {
+        match number {
+            1 => write(&mut table, alloc, "a.git", MAIN, Some(ONE))?,
+            4 => write(&mut table, alloc, "a.git", "refs/heads/main/x", Some(ONE))?,
+            7 => write(&mut table, alloc, "a.git", "refs/tags/t", Some(ONE))?,
+            2 | 5 => add(&mut table, alloc, "a.git", Change::Delete)?,
+            _ => add(&mut table, alloc, "a.git", Change::Create { pool: false })?,
+        }
+    }
+    Ok(table)
+}
+
+#[test]
+fn an_earlier_life_is_out_of_the_way(rt: HostRuntime) -> Result<(), Fail> {
+    let alloc = rt.alloc();
+    let rows = [
+        (1, "refs/heads/main/x", MAIN, 1),
+        (2, "refs/heads/main/x", "", 0),
+        (3, "refs/heads/main/x", "", 0),
+        (4, "refs/heads/main/x/y", "refs/heads/main/x", 1),
+        (4, MAIN, "refs/heads/main/x", 1),
+        (6, MAIN, "", 0),
+        (7, MAIN, "", 1),
+        (7, "refs/tags", "refs/tags/t", 1),
+    ];
+    for (at, name, least, count) in rows {
+        for entries in [at, 7] {
+            let Ok(table) = three_lives(alloc, entries) else {
+                return Err(Fail::from("no memory"));
+            };
+            let found = clash(&table, alloc, at, name, "");
+            assert!(rt; is_text(&found, least), "{name} at {at} of {entries}");
+            let all = listed(&table, alloc, at, "a.git", "");
+            assert_eq!(rt; all, Ok(count), "at {at} of {entries}");
+        }
+    }
+    Ok(())
+}
+
+// One entry that deletes a reference and then writes it, or the other way round.
+fn twice(alloc: Global, first: Name, second: Name) -> Result<RefTable, NoMemory> {
+    let mut table = RefTable::start(alloc, 0)?;
+    write(&mut table, alloc, "a.git", MAIN, Some(ONE))?;
+    let mut refs = ListOf::new(alloc);
+    for new in [first, second] {
+        let name = reference(alloc, MAIN)?;
+        refs.push(RefUpdate {
+            name,
+            old: Name::ZERO,
+            new: Some(new),
+        })?;
+    }
+    let change = Change::Write {
+        refs,
+        needed: ListOf::new(alloc),
+        added: ListOf::new(alloc),
+    };
+    add(&mut table, alloc, "a.git", change)?;
+    Ok(table)
+}
+
+#[test]
+fn the_last_update_of_a_reference_counts(rt: HostRuntime) -> Result<(), Fail> {
+    let alloc = rt.alloc();
+    let rows = [(Name::ZERO, TWO, Some(TWO), 1), (TWO, Name::ZERO, None, 0)];
+    for (first, second, value, count) in rows {
+        let Ok(table) = twice(alloc, first, second) else {
+            return Err(Fail::from("no memory"));
+        };
+        let found = value_at(&table, alloc, 2, "a.git", MAIN);
+        assert_eq!(rt; found, Ok(value), "{count}");
+        let all = listed(&table, alloc, 2, "a.git", "");
+        assert_eq!(rt; all, Ok(count), "{count}");
+    }
+    Ok(())
+}

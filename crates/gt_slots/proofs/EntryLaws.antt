@@ -33,7 +33,7 @@ module _ {X : Type 0} where
       let n = not_none (eq_by_cmp key_cmp k x.0) x.1 (at_key (xs ++ ys) k) h in
       ap (λ b. cond b (Some x.1) (at_key (xs ++ (k, v) ∷ ys) k)) n.0 ∙ here_by k v xs ys n.1
 
-  others_by : (q : List ℕ) (e : List ℕ × X) (xs ys : List (List ℕ × X)) → eq_by_cmp key_cmp q e.0 ≡ false → at_key (xs ++ e ∷ ys) q ≡ at_key (xs ++ ys) q
+  pub others_by : (q : List ℕ) (e : List ℕ × X) (xs ys : List (List ℕ × X)) → eq_by_cmp key_cmp q e.0 ≡ false → at_key (xs ++ e ∷ ys) q ≡ at_key (xs ++ ys) q
   others_by q e [] ys h = ap (λ b. cond b (Some e.1) (at_key ys q)) h
   others_by q e (x ∷ xs) ys h = ap (cond (eq_by_cmp key_cmp q x.0) (Some x.1)) (others_by q e xs ys h)
 
@@ -45,12 +45,13 @@ module _ {X : Type 0} where
 
   -- ---- an entry edited
 
-  abbrev tail_at : List (List (List ℕ × X)) → ℕ → ℕ → List (List ℕ × X)
+  -- what stands behind a place
+  abbrev pub tail_at : List (List (List ℕ × X)) → ℕ → ℕ → List (List ℕ × X)
   tail_at [] i j = []
   tail_at (p ∷ ps) zero j = drop (suc j) p ++ all ps
   tail_at (p ∷ ps) (suc i) j = tail_at ps i j
 
-  all_at : (ps : List (List (List ℕ × X))) (i j : ℕ) (d : List ℕ × X) → i < length ps → j < length (page ps i) → all ps ≡ front ps i j ++ slice_index_or (page ps i) j d ∷ tail_at ps i j
+  pub all_at : (ps : List (List (List ℕ × X))) (i j : ℕ) (d : List ℕ × X) → i < length ps → j < length (page ps i) → all ps ≡ front ps i j ++ slice_index_or (page ps i) j d ∷ tail_at ps i j
   all_at ps i j d l m = sym (front_rest ps i j) ∙ ap (λ q. front ps i j ++ q) (rest_at ps i j l m)
     where
       rest_at : (ps : List (List (List ℕ × X))) (i j : ℕ) → i < length ps → j < length (page ps i) → rest ps i j ≡ slice_index_or (page ps i) j d ∷ tail_at ps i j

@@ -5,6 +5,7 @@ pub mod PlaceLaws
 pub mod LookLaws
 pub mod EditLaws
 pub mod EntryLaws
+pub mod RemovalLaws
 pub mod SlotLaws
 pub mod ListLaws
 pub mod FolderLaws

@@ -8,6 +8,7 @@ mod inserting;
 mod listing;
 mod page;
 mod probe;
+mod removing;
 mod slots;
 
 pub use slots::Slots;

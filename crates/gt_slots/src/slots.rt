@@ -14,6 +14,7 @@ use crate::editing::{prepare_slot, put_slot};
 use crate::finding::{find_place, look};
 use crate::listing::list_from;
 use crate::page::Page;
+use crate::removing::remove_slot;
 use gt_list::NoMemory;
 use gt_model::RefList;
 use gt_name::{Name, Names2, RefName};
@@ -78,6 +79,13 @@ impl Slots {
         ensures ok { OnOk result ((q : ℕ) → IsTrue (slot_ready q (map.get self.new name.now))) }
     {
         prepare_slot(&mut self.pages, alloc, name)
+    }
+
+    /// Takes a reference out, with all its values. It takes no memory.
+    pub fn remove(&mut self, name: &RefName)
+        ensures { self.new ≡ map.remove self.old name.now }
+    {
+        remove_slot(&mut self.pages, name);
     }
 
     /// The references whose names begin so, ascending by name: what each names at a position, where that was given from

@@ -10,4 +10,4 @@ pub returns-in-Ok-insert-clause-here : goal.returns-in-Ok-insert-clause-here
 returns-in-Ok-insert-clause-here c =
     let found : at_key c.insert.new.self.entries c.args.path.now ≡ Some c.prepare.new.self = grind (arith, common_steps) in
     let P : Option Track → Type 0 = λ s. IfSome s IsUnborn in
-    subst P (sym found) (unborn c.new-repo.result c.prepare.new.self c.new-repo.ensures.lives c.new-repo.ensures.refs c.prepare.ensures.same)
+    subst P (sym found) (unborn c.new-repo.result c.prepare.new.self c.new-repo.ensures.lives c.new-repo.ensures.refs c.new-repo.ensures.current c.prepare.ensures.same)

@@ -5,7 +5,7 @@ use Rattle.gt_reftable.proofs.SeedLaws.{empty_up, seeds_new}
 use Rattle.gt_reftable.proofs.seeding.seed_new.Goals as goal
 
 pub seed-requires : goal.seed-requires
-seed-requires c = empty_up c.args.position c.new-repo.result c.new-repo.ensures.lives c.new-repo.ensures.refs
+seed-requires c = empty_up c.args.position c.new-repo.result c.new-repo.ensures.lives c.new-repo.ensures.refs c.new-repo.ensures.current
 
 pub returns-in-Ok-insert-clause-ok : goal.returns-in-Ok-insert-clause-ok
 returns-in-Ok-insert-clause-ok c =
