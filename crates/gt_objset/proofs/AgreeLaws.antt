@@ -14,7 +14,7 @@ use Rattle.gt_objset.specs.declared.head.HeadChange.{HeadChange}
 use Rattle.gt_objset.specs.Track.{Track, is_pool_of}
 use Rattle.gt_objset.specs.Table.{Table, head_in_slot, own_in_slot, head_at, own_at, place_at, Adds}
 use Rattle.gt_objset.specs.Agree.{ArePlaced, Agrees}
-use Rattle.gt_objset.proofs.TableLaws.{table}
+use Rattle.gt_objset.proofs.TableLaws.{PoolSets, table}
 use Rattle.gt_objset.proofs.ContentLaws.{head_of_repo, head_in-after, placed-after}
 
 places_after-append : (c : Content) (places : List ℕ → List ℕ → Option Place) (log : List Entry) (e : Entry) → places_after c places (log ++ e ∷ []) ≡ own_after e (head_in (after_all c log) e.path) (places_after c places log)
@@ -157,8 +157,8 @@ take_none : (n : ℕ) → take n no_entries ≡ no_entries
 take_none zero = refl
 take_none (suc n) = refl
 
-pub empty_agrees : (floor : ℕ) (es : List (List ℕ × Track)) (head : HeadChange) (puts : List (List ℕ × Option Place)) → es ≡ [] → Agrees (table floor floor es head puts) nothing (λ path x. None) []
-empty_agrees floor es head puts e = record {
+pub empty_agrees : (floor : ℕ) (es : List (List ℕ × Track)) (sets : PoolSets) (head : HeadChange) (puts : List (List ℕ × Option Place)) → es ≡ [] → Agrees (table floor floor es sets head puts) nothing (λ path x. None) []
+empty_agrees floor es sets head puts e = record {
   placed = λ path x. ap (λ o. is_some (and_then o (λ (r : Repo). map.get r.own x))) (sym (get-empty key_cmp path));
   front = omega arith;
   heads = λ p path low high. ap (λ s. head_in_slot s p) (none path) ∙ sym (ap (λ es. head_in (after_all nothing es) path) (take_none (p - floor)) ∙ ap (option_map head_of_repo) (get-empty key_cmp path));

@@ -2,7 +2,6 @@
 use Rattle.std.proofs.Common.{◌≡◌, ℕ, ◌+◌, ◌<◌, ◌≤◌, ◌⊎◌, inl, inr, Bool, true, false, cond, ◌&&◌, is_some, List, [], ◌∷◌, Option, Some, None, Result, Ok, Err, OnOk, OnErr, refl, sym, ap, ◌∙◌, subst, filter, find as list_find, map as list_map, nat_eq, arith}
 use Rattle.std.specs.Cmp.Lexicographic.{pointwise}
 use Rattle.std.proofs.lemmas.Bool.{eqb-true, cases_lt}
-use Rattle.std.specs.BTreeMap as tree
 use Rattle.std.specs.BTreeSet.{BTreeSet}
 use Rattle.std.specs.Ordering.{eq_by_cmp, is_eq}
 use Rattle.std.specs.declared.cmp.Ordering.{Ordering}
@@ -15,15 +14,15 @@ use Rattle.gt_model.specs.declared.change.Change.TheVariants.{Create, Delete, Li
 use Rattle.gt_model.specs.declared.entry.Entry.{Entry}
 use Rattle.gt_model.specs.Contents.{key_cmp, is_this}
 use Rattle.gt_versions.proofs.Keys.{key_cmp-IsAntisymmetric, at_key, get_key, spread}
-use Rattle.gt_objset.specs.declared.members.Members.{Members}
 use Rattle.gt_objset.specs.declared.head.HeadChange.{HeadChange}
 use Rattle.gt_objset.specs.Places.{Head, pool_in, head_here, head_after}
 use Rattle.gt_objset.specs.Track.{Track}
-use Rattle.gt_objset.specs.Table.{head_in_slot, head_at, head_change, IsSlotUpTo, AllUpTo, SameSlot, IsSameTable, Adds}
-use Rattle.gt_objset.specs.Members.{has_path, is_noted, notes, NotesMore, Covers, CoversFrom, IsKept}
+use Rattle.gt_objset.specs.Table.{head_in_slot, head_at, head_change, IsSlotUpTo, AllUpTo, SameSlot, IsSameTable, IsPrepared, Adds}
+use Rattle.gt_objset.specs.Members.{Sets, has_path, is_noted, notes, NotesMore}
+use Rattle.gt_objset.specs.Kept.{Covers, CoversFrom, IsKept}
 use Rattle.gt_objset.specs.declared.place.Place.{Place}
 use Rattle.gt_objset.specs.Seeds.{SeedsRepo, SeedsObject}
-use Rattle.gt_objset.proofs.TableLaws.{table, slots, same_up}
+use Rattle.gt_objset.proofs.TableLaws.{PoolSets, table, slots, same_up, notes_at}
 use Rattle.gt_objset.proofs.TrackLaws.{head_past}
 use Rattle.gt_objset.proofs.ListLaws.{first, find-first, same_where}
 
@@ -48,43 +47,35 @@ same_list (x ∷ xs) (y ∷ ys) e = by (nat_eq x y) refl (same_list xs ys) e
         cc
     by false t tail h = cc
 
-and_left : (a b : Bool) → (a && b) ≡ true → a ≡ true
-and_left true b h = refl
-and_left false b h = h
-
-and_right : (a b : Bool) → (a && b) ≡ true → b ≡ true
-and_right true b h = h
-and_right false b h = cc
-
 this_one : (o : Option (List ℕ)) (pool : List ℕ) → is_this o pool ≡ true → o ≡ Some pool
 this_one None pool e = cc
 this_one (Some w) pool e = ap (λ v. Some v) (same_list w pool e)
 
 -- what is noted of what a repository is given, for its pool
-noted_pool : (m : Members) (path : List ℕ) (given : Option (List ℕ)) (pool : List ℕ) → notes m path (Some given) ≡ true → is_this given pool ≡ true → is_noted m pool path ≡ true
+noted_pool : (m : Sets) (path : List ℕ) (given : Option (List ℕ)) (pool : List ℕ) → notes m path (Some given) ≡ true → is_this given pool ≡ true → is_noted m pool path ≡ true
 noted_pool m path given pool n t = let P : Option (List ℕ) → Type 0 = λ o. notes m path (Some o) ≡ true in subst P (this_one given pool t) n
 
 module _ (floor : ℕ) where
-  pub more_cover : (old new : Members) (f : List ℕ → Option Track) → NotesMore old new → CoversFrom floor old f → CoversFrom floor new f
-  more_cover old new f n h = λ p low w pool path is. n.noted pool path (h p low (sym n.whole ∙ w) pool path is)
+  pub more_cover : (old new : Sets) (f : List ℕ → Option Track) → NotesMore old new → CoversFrom floor old f → CoversFrom floor new f
+  more_cover old new f n h = λ p low pool path is. n pool path (h p low pool path is)
 
-  pub same_cover : (m : Members) (f g : List ℕ → Option Track) → ((path : List ℕ) → SameSlot (f path) (g path)) → CoversFrom floor m f → CoversFrom floor m g
-  same_cover m f g s h = λ p low w pool path is. h p low w pool path (ap (λ o. is_this (pool_in o) pool) (sym ((s path).head p)) ∙ is)
+  pub same_cover : (m : Sets) (f g : List ℕ → Option Track) → ((path : List ℕ) → SameSlot (f path) (g path)) → CoversFrom floor m f → CoversFrom floor m g
+  same_cover m f g s h = λ p low pool path is. h p low pool path (ap (λ o. is_this (pool_in o) pool) (sym ((s path).head p)) ∙ is)
 
   -- ---- what is seeded
 
-  pub heads_cover : (m : Members) (f g : List ℕ → Option Track) → ((q : List ℕ) → IsSlotUpTo floor (g q)) → ((q : List ℕ) → head_in_slot (g q) floor ≡ head_in_slot (f q) floor) → CoversFrom floor m f → CoversFrom floor m g
-  heads_cover m f g up heads h = λ p low w pool q is. h floor (omega arith) w pool q (ap (λ o. is_this (pool_in o) pool) (sym (head_past floor p (g q) low (up q) ∙ heads q)) ∙ is)
+  pub heads_cover : (m : Sets) (f g : List ℕ → Option Track) → ((q : List ℕ) → IsSlotUpTo floor (g q)) → ((q : List ℕ) → head_in_slot (g q) floor ≡ head_in_slot (f q) floor) → CoversFrom floor m f → CoversFrom floor m g
+  heads_cover m f g up heads h = λ p low pool q is. h floor (omega arith) pool q (ap (λ o. is_this (pool_in o) pool) (sym (head_past floor p (g q) low (up q) ∙ heads q)) ∙ is)
 
-  pub seed_cover : (m : Members) (f g : List ℕ → Option Track) (path : List ℕ) (what : Head) → ((q : List ℕ) → IsSlotUpTo floor (g q))
+  pub seed_cover : (m : Sets) (f g : List ℕ → Option Track) (path : List ℕ) (what : Head) → ((q : List ℕ) → IsSlotUpTo floor (g q))
       → ((q : List ℕ) → head_in_slot (g q) floor ≡ cond (eq_by_cmp key_cmp q path) (Some what) (head_in_slot (f q) floor))
       → notes m path (Some what.pool) ≡ true → CoversFrom floor m f → CoversFrom floor m g
-  seed_cover m f g path what up heads n h = λ p low w pool q is.
-      by w pool q (eq_by_cmp key_cmp q path) refl (ap (λ o. is_this (pool_in o) pool) (sym (head_past floor p (g q) low (up q) ∙ heads q)) ∙ is)
+  seed_cover m f g path what up heads n h = λ p low pool q is.
+      by pool q (eq_by_cmp key_cmp q path) refl (ap (λ o. is_this (pool_in o) pool) (sym (head_past floor p (g q) low (up q) ∙ heads q)) ∙ is)
     where
-      by : m.whole ≡ true → (pool q : List ℕ) (b : Bool) → eq_by_cmp key_cmp q path ≡ b → is_this (pool_in (cond b (Some what) (head_in_slot (f q) floor))) pool ≡ true → is_noted m pool q ≡ true
-      by w pool q true t is = ap (is_noted m pool) (same_key q path t) ∙ noted_pool m path what.pool pool n is
-      by w pool q false t is = h floor (omega arith) w pool q is
+      by : (pool q : List ℕ) (b : Bool) → eq_by_cmp key_cmp q path ≡ b → is_this (pool_in (cond b (Some what) (head_in_slot (f q) floor))) pool ≡ true → is_noted m pool q ≡ true
+      by pool q true t is = ap (is_noted m pool) (same_key q path t) ∙ noted_pool m path what.pool pool n is
+      by pool q false t is = h floor (omega arith) pool q is
 
 -- ---- an entry that is added
 
@@ -101,89 +92,92 @@ kept_or_given (PackRefs file) o pool is = inl is
 kept_or_given (Unlink file) None pool is = let no : ⊥ = cc in absurd no
 kept_or_given (Unlink file) (Some h) pool is = let no : ⊥ = cc in absurd no
 
-module _ (floor front : ℕ) (order : floor ≤ front) (old new : Members) (e : Entry) (given : HeadChange) (is_given : given ≡ head_change e.change)
-    (whole : new.whole ≡ (old.whole && notes old e.path given.pool)) (same : (pool q : List ℕ) → is_noted new pool q ≡ is_noted old pool q)
+module _ (floor front : ℕ) (order : floor ≤ front) (m : Sets) (e : Entry) (given : HeadChange) (is_given : given ≡ head_change e.change) (noted : notes m e.path given.pool ≡ true)
     (f g : List ℕ → Option Track) (up : (q : List ℕ) → IsSlotUpTo (front + 1) (g q))
     (next : (q : List ℕ) → head_in_slot (g q) (front + 1) ≡ head_after e q (head_in_slot (f q) front))
-    (before : (p : ℕ) (q : List ℕ) → p ≤ front → head_in_slot (g q) p ≡ head_in_slot (f q) p) (h : CoversFrom floor old f) where
-  was_whole : new.whole ≡ true → old.whole ≡ true
-  was_whole w = and_left old.whole (notes old e.path given.pool) (sym whole ∙ w)
+    (before : (p : ℕ) (q : List ℕ) → p ≤ front → head_in_slot (g q) p ≡ head_in_slot (f q) p) (h : CoversFrom floor m f) where
+  given_here : (pool : List ℕ) → (head_change e.change).pool ≡ Some (Some pool) → is_noted m pool e.path ≡ true
+  given_here pool is = let P : Option (Option (List ℕ)) → Type 0 = λ o. notes m e.path o ≡ true in subst P (ap (λ (c : HeadChange). c.pool) is_given ∙ is) noted
 
-  given_here : new.whole ≡ true → (pool : List ℕ) → (head_change e.change).pool ≡ Some (Some pool) → is_noted new pool e.path ≡ true
-  given_here w pool is =
-      let P : Option (Option (List ℕ)) → Type 0 = λ o. notes old e.path o ≡ true in
-      same pool e.path ∙ subst P (ap (λ (c : HeadChange). c.pool) is_given ∙ is) (and_right old.whole (notes old e.path given.pool) (sym whole ∙ w))
-
-  had : new.whole ≡ true → (pool q : List ℕ) → is_this (pool_in (head_in_slot (f q) front)) pool ≡ true → is_noted new pool q ≡ true
-  had w pool q is = same pool q ∙ h front order (was_whole w) pool q is
-
-  has_after : new.whole ≡ true → (pool q : List ℕ) (b : Bool) → eq_by_cmp key_cmp q e.path ≡ b → is_this (pool_in (cond b (head_here e.change (head_in_slot (f q) front)) (head_in_slot (f q) front))) pool ≡ true → is_noted new pool q ≡ true
-  has_after w pool q true t is = by (kept_or_given e.change (head_in_slot (f q) front) pool is)
+  has_after : (pool q : List ℕ) (b : Bool) → eq_by_cmp key_cmp q e.path ≡ b → is_this (pool_in (cond b (head_here e.change (head_in_slot (f q) front)) (head_in_slot (f q) front))) pool ≡ true → is_noted m pool q ≡ true
+  has_after pool q true t is = by (kept_or_given e.change (head_in_slot (f q) front) pool is)
     where
-      by : (is_this (pool_in (head_in_slot (f q) front)) pool ≡ true) ⊎ ((head_change e.change).pool ≡ Some (Some pool)) → is_noted new pool q ≡ true
-      by (inl k) = had w pool q k
-      by (inr k) = ap (is_noted new pool) (same_key q e.path t) ∙ given_here w pool k
-  has_after w pool q false t is = had w pool q is
+      by : (is_this (pool_in (head_in_slot (f q) front)) pool ≡ true) ⊎ ((head_change e.change).pool ≡ Some (Some pool)) → is_noted m pool q ≡ true
+      by (inl k) = h front order pool q k
+      by (inr k) = ap (is_noted m pool) (same_key q e.path t) ∙ given_here pool k
+  has_after pool q false t is = h front order pool q is
 
-  pub added_cover : CoversFrom floor new g
-  added_cover p low w pool q is = by (cases_lt front p)
+  pub added_cover : CoversFrom floor m g
+  added_cover p low pool q is = by (cases_lt front p)
     where
-      by : (front < p) ⊎ (p ≤ front) → is_noted new pool q ≡ true
-      by (inr l) = same pool q ∙ h p low (was_whole w) pool q (ap (λ o. is_this (pool_in o) pool) (sym (before p q l)) ∙ is)
-      by (inl l) = has_after w pool q (eq_by_cmp key_cmp q e.path) refl (ap (λ o. is_this (pool_in o) pool) (sym (head_past (front + 1) p (g q) (omega arith) (up q) ∙ next q)) ∙ is)
+      by : (front < p) ⊎ (p ≤ front) → is_noted m pool q ≡ true
+      by (inr l) = h p low pool q (ap (λ o. is_this (pool_in o) pool) (sym (before p q l)) ∙ is)
+      by (inl l) = has_after pool q (eq_by_cmp key_cmp q e.path) refl (ap (λ o. is_this (pool_in o) pool) (sym (head_past (front + 1) p (g q) (omega arith) (up q) ∙ next q)) ∙ is)
 
 -- ---- what is kept
 
-pub none_cover : (floor : ℕ) (m : Members) (es : List (List ℕ × Track)) → es ≡ [] → CoversFrom floor m (λ q. map.get (from_entries {R = key_cmp} es) q)
-none_cover floor m es e p low w pool q is =
-    let none : map.get (from_entries {R = key_cmp} es) q ≡ None = get_key es q ∙ ap (λ fs. at_key fs q) e in
+-- the sets and the repositories of these entries
+abbrev sets_of : PoolSets → Sets
+sets_of ss w = map.get (from_entries {R = key_cmp} ss) w
+
+abbrev slots_of : List (List ℕ × Track) → List ℕ → Option Track
+slots_of es q = map.get (from_entries {R = key_cmp} es) q
+
+more_sets : (ss ts : PoolSets) → NotesMore (λ w. at_key ss w) (λ w. at_key ts w) → NotesMore (sets_of ss) (sets_of ts)
+more_sets ss ts more pool path is = notes_at ts path (Some (Some pool)) ∙ more pool path (sym (notes_at ss path (Some (Some pool))) ∙ is)
+
+pub none_cover : (floor : ℕ) (ss : PoolSets) (es : List (List ℕ × Track)) → es ≡ [] → CoversFrom floor (sets_of ss) (slots_of es)
+none_cover floor ss es e p low pool q is =
+    let none : slots_of es q ≡ None = get_key es q ∙ ap (λ fs. at_key fs q) e in
     let no : false ≡ true = ap (λ s. is_this (pool_in (head_in_slot s p)) pool) (sym none) ∙ is in
     cc
 
-pub kept_more : (floor front : ℕ) (m n : Members) (es : List (List ℕ × Track)) → NotesMore m n → IsKept floor front m (from_entries es) → IsKept floor front n (from_entries es)
-kept_more floor front m n es more k = record { order = k.order; newest = k.newest; members = more_cover floor m n (λ q. map.get (from_entries {R = key_cmp} es) q) more k.members }
+pub kept_more : (floor front : ℕ) (ss ts : PoolSets) (es : List (List ℕ × Track)) → NotesMore (λ w. at_key ss w) (λ w. at_key ts w) → IsKept floor front (from_entries ss) (from_entries es) → IsKept floor front (from_entries ts) (from_entries es)
+kept_more floor front ss ts es more k = record { order = k.order; newest = k.newest; covers = more_cover floor (sets_of ss) (sets_of ts) (slots_of es) (more_sets ss ts more) k.covers }
 
-pub kept_same : (floor front : ℕ) (m : Members) (es fs : List (List ℕ × Track)) → ((q : List ℕ) → SameSlot (at_key es q) (at_key fs q)) → IsKept floor front m (from_entries es) → IsKept floor front m (from_entries fs)
-kept_same floor front m es fs s k = record {
+pub kept_same : (floor front : ℕ) (ss : PoolSets) (es fs : List (List ℕ × Track)) → ((q : List ℕ) → SameSlot (at_key es q) (at_key fs q)) → IsKept floor front (from_entries ss) (from_entries es) → IsKept floor front (from_entries ss) (from_entries fs)
+kept_same floor front ss es fs s k = record {
   order = k.order;
   newest = same_up floor front es fs s k.newest;
-  members = same_cover floor m (λ q. map.get (from_entries {R = key_cmp} es) q) (λ q. map.get (from_entries {R = key_cmp} fs) q) (slots floor front es fs s) k.members;
+  covers = same_cover floor (sets_of ss) (slots_of es) (slots_of fs) (slots floor front es fs s) k.covers;
 }
 
 -- where nothing stands past the floor
-up_floor : (floor front : ℕ) (fs : List (List ℕ × Track)) → front ≡ floor → AllUpTo front (from_entries fs) → (q : List ℕ) → IsSlotUpTo floor (map.get (from_entries {R = key_cmp} fs) q)
-up_floor floor front fs e up q = let P : ℕ → Type 0 = λ n. IsSlotUpTo n (map.get (from_entries {R = key_cmp} fs) q) in subst P e (up q)
+up_floor : (floor front : ℕ) (fs : List (List ℕ × Track)) → front ≡ floor → AllUpTo front (from_entries fs) → (q : List ℕ) → IsSlotUpTo floor (slots_of fs q)
+up_floor floor front fs e up q = let P : ℕ → Type 0 = λ n. IsSlotUpTo n (slots_of fs q) in subst P e (up q)
 
-module _ {T E : Type 0} (res : Result T E) (floor front : ℕ) (at_floor : front ≡ floor) (m : Members) (es fs : List (List ℕ × Track)) (head : HeadChange) (puts : List (List ℕ × Option Place)) (path : List ℕ)
-    (up : AllUpTo front (from_entries fs)) (k : IsKept floor front m (from_entries es)) where
-  pub repo_kept : (what : Head) → OnOk res (SeedsRepo path what (table floor front es head puts) (table floor front fs head puts)) → OnErr res (IsSameTable (table floor front es head puts) (table floor front fs head puts)) → notes m path (Some what.pool) ≡ true → IsKept floor front m (from_entries fs)
-  repo_kept what ok err n = record { order = k.order; newest = up; members = by res ok err }
-    where
-      by : (res : Result T E) → OnOk res (SeedsRepo path what (table floor front es head puts) (table floor front fs head puts)) → OnErr res (IsSameTable (table floor front es head puts) (table floor front fs head puts)) → CoversFrom floor m (λ q. map.get (from_entries {R = key_cmp} fs) q)
-      by (Ok r) ok err = seed_cover floor m (λ q. map.get (from_entries {R = key_cmp} es) q) (λ q. map.get (from_entries {R = key_cmp} fs) q) path what (up_floor floor front fs at_floor up) ok.heads n k.members
-      by (Err r) ok err = heads_cover floor m (λ q. map.get (from_entries {R = key_cmp} es) q) (λ q. map.get (from_entries {R = key_cmp} fs) q) (up_floor floor front fs at_floor up) (err.heads floor) k.members
+module _ {T E : Type 0} (res : Result T E) (floor front : ℕ) (at_floor : front ≡ floor) (es fs : List (List ℕ × Track)) (sets more : PoolSets) (head : HeadChange) (puts : List (List ℕ × Option Place)) (path : List ℕ)
+    (up : AllUpTo front (from_entries fs)) (k : IsKept floor front (from_entries more) (from_entries es)) where
+  abbrev Same : Type 0
+  Same = IsSameTable (table floor front es sets head puts) (table floor front fs more head puts)
 
-  pub object_kept : (name : List ℕ) (place : Place) → OnOk res (SeedsObject path name place (table floor front es head puts) (table floor front fs head puts)) → OnErr res (IsSameTable (table floor front es head puts) (table floor front fs head puts)) → IsKept floor front m (from_entries fs)
-  object_kept name place ok err = record { order = k.order; newest = up; members = heads_cover floor m (λ q. map.get (from_entries {R = key_cmp} es) q) (λ q. map.get (from_entries {R = key_cmp} fs) q) (up_floor floor front fs at_floor up) (by res ok err) k.members }
+  pub repo_kept : (what : Head) → OnOk res (SeedsRepo path what (table floor front es sets head puts) (table floor front fs more head puts)) → OnErr res Same → notes (λ w. at_key more w) path (Some what.pool) ≡ true → IsKept floor front (from_entries more) (from_entries fs)
+  repo_kept what ok err n = record { order = k.order; newest = up; covers = by res ok err }
     where
-      by : (res : Result T E) → OnOk res (SeedsObject path name place (table floor front es head puts) (table floor front fs head puts)) → OnErr res (IsSameTable (table floor front es head puts) (table floor front fs head puts)) → (q : List ℕ) → head_at (table floor front fs head puts) floor q ≡ head_at (table floor front es head puts) floor q
+      by : (res : Result T E) → OnOk res (SeedsRepo path what (table floor front es sets head puts) (table floor front fs more head puts)) → OnErr res Same → CoversFrom floor (sets_of more) (slots_of fs)
+      by (Ok r) ok err = seed_cover floor (sets_of more) (slots_of es) (slots_of fs) path what (up_floor floor front fs at_floor up) ok.heads (notes_at more path (Some what.pool) ∙ n) k.covers
+      by (Err r) ok err = heads_cover floor (sets_of more) (slots_of es) (slots_of fs) (up_floor floor front fs at_floor up) (err.heads floor) k.covers
+
+  pub object_kept : (name : List ℕ) (place : Place) → OnOk res (SeedsObject path name place (table floor front es sets head puts) (table floor front fs more head puts)) → OnErr res Same → IsKept floor front (from_entries more) (from_entries fs)
+  object_kept name place ok err = record { order = k.order; newest = up; covers = heads_cover floor (sets_of more) (slots_of es) (slots_of fs) (up_floor floor front fs at_floor up) (by res ok err) k.covers }
+    where
+      by : (res : Result T E) → OnOk res (SeedsObject path name place (table floor front es sets head puts) (table floor front fs more head puts)) → OnErr res Same → (q : List ℕ) → head_at (table floor front fs more head puts) floor q ≡ head_at (table floor front es sets head puts) floor q
       by (Ok r) ok err = ok.heads
       by (Err r) ok err = err.heads floor
 
-pub added_kept : (floor front n : ℕ) (m new : Members) (es fs : List (List ℕ × Track)) (head next : HeadChange) (puts : List (List ℕ × Option Place)) (e : Entry) (given : HeadChange) → n ≡ front + 1 → AllUpTo n (from_entries fs)
-    → Adds e (table floor front es head puts) (table floor n fs next puts) → given ≡ head_change e.change
-    → new.whole ≡ (m.whole && notes m e.path given.pool) → ((pool q : List ℕ) → is_noted new pool q ≡ is_noted m pool q)
-    → IsKept floor front m (from_entries es) → IsKept floor n new (from_entries fs)
-added_kept floor front n m new es fs head next puts e given at_n up adds is whole same k = record {
+pub added_kept : (floor front n : ℕ) (es fs : List (List ℕ × Track)) (sets : PoolSets) (head next : HeadChange) (puts : List (List ℕ × Option Place)) (e : Entry) → n ≡ front + 1 → AllUpTo n (from_entries fs)
+    → Adds e (table floor front es sets head puts) (table floor n fs sets next puts) → IsPrepared (table floor front es sets head puts) e
+    → IsKept floor front (from_entries sets) (from_entries es) → IsKept floor n (from_entries sets) (from_entries fs)
+added_kept floor front n es fs sets head next puts e at_n up adds prepared k = record {
   order = let l = k.order in omega arith;
   newest = up;
-  members = added_cover floor front k.order m new e given is whole same (λ q. map.get (from_entries {R = key_cmp} es) q) (λ q. map.get (from_entries {R = key_cmp} fs) q)
-      (λ q. let P : ℕ → Type 0 = λ i. IsSlotUpTo i (map.get (from_entries {R = key_cmp} fs) q) in subst P at_n (up q)) adds.head_next adds.head_before k.members;
+  covers = added_cover floor front k.order (sets_of sets) e head prepared.head prepared.noted (slots_of es) (slots_of fs)
+      (λ q. let P : ℕ → Type 0 = λ i. IsSlotUpTo i (slots_of fs q) in subst P at_n (up q)) adds.head_next adds.head_before k.covers;
 }
 
 -- what the sets have of a table that is kept
-pub covered : (floor front p : ℕ) (m : Members) (es : List (List ℕ × Track)) → floor ≤ p → IsKept floor front m (from_entries es) → Covers m p (λ q. at_key es q)
-covered floor front p m es low k w pool q is = k.members p low w pool q (ap (λ s. is_this (pool_in (head_in_slot s p)) pool) (get_key es q) ∙ is)
+pub covered : (floor front p : ℕ) (ss : PoolSets) (es : List (List ℕ × Track)) → floor ≤ p → IsKept floor front (from_entries ss) (from_entries es) → Covers (λ w. at_key ss w) p (λ q. at_key es q)
+covered floor front p ss es low k pool q is = sym (notes_at ss q (Some (Some pool))) ∙ k.covers p low pool q (ap (λ s. is_this (pool_in (head_in_slot s p)) pool) (get_key es q) ∙ is)
 
 -- ---- the candidates are enough
 
@@ -191,24 +185,24 @@ true_some : (s : Option Track) (p : ℕ) (pool : List ℕ) → is_this (pool_in 
 true_some None p pool e = let no : ⊥ = cc in absurd no
 true_some (Some t) p pool e = refl
 
-module _ (m : Members) (whole : m.whole ≡ true) (es : List (List ℕ × Track)) (p : ℕ) (pool : List ℕ) (covers : Covers m p (λ q. at_key es q)) (ordered : IsStrictlySortedBy key_cmp (list_map (λ e. e.0) es)) where
+module _ (sets : PoolSets) (es : List (List ℕ × Track)) (p : ℕ) (pool : List ℕ) (covers : Covers (λ w. at_key sets w) p (λ q. at_key es q)) (ordered : IsStrictlySortedBy key_cmp (list_map (λ e. e.0) es)) where
   abbrev test : List ℕ → Bool
   test q = is_this (pool_in (head_in_slot (at_key es q) p)) pool
 
-  in_set : (o : Option (BTreeSet (List ℕ))) → o ≡ tree.get key_cmp m.sets pool → (q : List ℕ) → test q ≡ true → has_path o q ≡ is_some (at_key es q)
-  in_set o e q t = ap (λ s. has_path s q) e ∙ covers whole pool q t ∙ sym (true_some (at_key es q) p pool t)
+  in_set : (o : Option (BTreeSet (List ℕ))) → o ≡ at_key sets pool → (q : List ℕ) → test q ≡ true → has_path o q ≡ is_some (at_key es q)
+  in_set o e q t = ap (λ s. has_path s q) e ∙ covers pool q t ∙ sym (true_some (at_key es q) p pool t)
 
-  pub none_in_pool : None ≡ tree.get key_cmp m.sets pool → [] ≡ filter test (list_map (λ e. e.0) es)
+  pub none_in_pool : None ≡ at_key sets pool → [] ≡ filter test (list_map (λ e. e.0) es)
   unfolding IsStrictlySortedBy
   none_in_pool e = same_where [] es test tt ordered (in_set None e)
 
-  pub some_in_pool : (s : BTreeSet (List ℕ)) → Some s ≡ tree.get key_cmp m.sets pool → IsStrictlySortedBy key_cmp s.keys → filter test s.keys ≡ filter test (list_map (λ e. e.0) es)
+  pub some_in_pool : (s : BTreeSet (List ℕ)) → Some s ≡ at_key sets pool → IsStrictlySortedBy key_cmp s.keys → filter test s.keys ≡ filter test (list_map (λ e. e.0) es)
   some_in_pool s e o = same_where s.keys es test o ordered (in_set (Some s) e)
 
-  pub none_least : None ≡ tree.get key_cmp m.sets pool → None ≡ list_find test (list_map (λ e. e.0) es)
+  pub none_least : None ≡ at_key sets pool → None ≡ list_find test (list_map (λ e. e.0) es)
   none_least e = ap first (none_in_pool e) ∙ sym (find-first test (list_map (λ e. e.0) es))
 
-  pub some_least : (s : BTreeSet (List ℕ)) → Some s ≡ tree.get key_cmp m.sets pool → IsStrictlySortedBy key_cmp s.keys → list_find test s.keys ≡ list_find test (list_map (λ e. e.0) es)
+  pub some_least : (s : BTreeSet (List ℕ)) → Some s ≡ at_key sets pool → IsStrictlySortedBy key_cmp s.keys → list_find test s.keys ≡ list_find test (list_map (λ e. e.0) es)
   some_least s e o = find-first test s.keys ∙ ap first (some_in_pool s e o) ∙ sym (find-first test (list_map (λ e. e.0) es))
 
 -- ---- a set that is put in, and one that grows

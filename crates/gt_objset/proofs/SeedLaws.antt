@@ -18,7 +18,7 @@ use Rattle.gt_objset.specs.Table.{head_in_slot, own_in_slot, head_at, IsSlotUpTo
 use Rattle.gt_objset.specs.Seeds.{SeedsRepo, SeedsObject, IsSeeded, SeedsPuts}
 use Rattle.gt_objset.proofs.TrackLaws.{if_upto}
 use Rattle.gt_objset.proofs.StepLaws.{new_unborn}
-use Rattle.gt_objset.proofs.TableLaws.{table, same_up, same_table}
+use Rattle.gt_objset.proofs.TableLaws.{PoolSets, table, same_up, same_table}
 
 -- nothing but objects changes
 abbrev pub no_change : HeadChange
@@ -143,7 +143,7 @@ module _ (q : ℕ) (is_pool : Bool) (pool : Option (List ℕ)) (head : HeadChang
 
 -- ---- the whole table
 
-module _ (floor : ℕ) (es fs : List (List ℕ × Track)) (head : HeadChange) (puts : List (List ℕ × Option Place)) where
+module _ (floor : ℕ) (es fs : List (List ℕ × Track)) (sets more : PoolSets) (head : HeadChange) (puts : List (List ℕ × Option Place)) where
   pub floor_up : (front : ℕ) → front ≡ floor → AllUpTo front (from_entries es) → (x : List ℕ) → IsSlotUpTo floor (at_key es x)
   floor_up front e up x =
       let P : Option Track → Type 0 = λ s. IsSlotUpTo front s in
@@ -157,7 +157,7 @@ module _ (floor : ℕ) (es fs : List (List ℕ × Track)) (head : HeadChange) (p
         let Q : ℕ → Type 0 = λ n. IsSlotUpTo n (at_key fs q) in
         subst P (sym (get_key fs q)) (subst Q (sym e) (h q).newest)
 
-    pub object_seeded : (front : ℕ) → IsSome (head_at (table floor front es head puts) floor path) → SeedsObject path name place (table floor front es head puts) (table floor front fs head puts)
+    pub object_seeded : (front : ℕ) → IsSome (head_at (table floor front es sets head puts) floor path) → SeedsObject path name place (table floor front es sets head puts) (table floor front fs more head puts)
     object_seeded front there = record {
       floor = refl;
       front = refl;
@@ -200,7 +200,7 @@ module _ (floor : ℕ) (es fs : List (List ℕ × Track)) (head : HeadChange) (p
         by true t = let R : Option Track → Type 0 = λ s. IsSlotUpTo floor s in subst R (sym (at_key-same fs path q t)) (at_path (at_key fs path) some seed).2
         by false t = let R : Option Track → Type 0 = λ s. IsSlotUpTo floor s in subst R (sym (others q t)) (floor_up front e up q)
 
-    pub repo_seeded : (front : ℕ) → SeedsRepo path what (table floor front es head puts) (table floor front fs head puts)
+    pub repo_seeded : (front : ℕ) → SeedsRepo path what (table floor front es sets head puts) (table floor front fs more head puts)
     repo_seeded front = record {
       floor = refl;
       front = refl;
@@ -225,28 +225,28 @@ same_all es fs h x = record {
 
 -- ---- whichever the answer
 
-module _ {T E : Type 0} (res : Result T E) (floor front : ℕ) (es fs : List (List ℕ × Track)) (head : HeadChange) (puts : List (List ℕ × Option Place)) (at_floor : front ≡ floor) (up : AllUpTo front (from_entries es)) where
+module _ {T E : Type 0} (res : Result T E) (floor front : ℕ) (es fs : List (List ℕ × Track)) (sets more : PoolSets) (head : HeadChange) (puts : List (List ℕ × Option Place)) (at_floor : front ≡ floor) (up : AllUpTo front (from_entries es)) where
   module _ (name path : List ℕ) (place : Place) where
     pub any_puts_up : OnOk res ((q : List ℕ) → SeedsPuts floor (eq_by_cmp key_cmp q path) ((name, Some place) ∷ []) (at_key es q) (at_key fs q)) → OnErr res ((q : List ℕ) → SameSlot (at_key es q) (at_key fs q)) → AllUpTo front (from_entries fs)
     any_puts_up ok err = by res ok err
       where
         by : (res : Result T E) → OnOk res ((q : List ℕ) → SeedsPuts floor (eq_by_cmp key_cmp q path) ((name, Some place) ∷ []) (at_key es q) (at_key fs q)) → OnErr res ((q : List ℕ) → SameSlot (at_key es q) (at_key fs q)) → AllUpTo front (from_entries fs)
-        by (Ok r) ok err = puts_up floor es fs head puts ((name, Some place) ∷ []) name path place refl ok front at_floor
+        by (Ok r) ok err = puts_up floor es fs sets more head puts ((name, Some place) ∷ []) name path place refl ok front at_floor
         by (Err r) ok err = same_up floor front es fs err up
 
-    pub any_object_seeded : IsSome (head_at (table floor front es head puts) floor path) → OnOk res ((q : List ℕ) → SeedsPuts floor (eq_by_cmp key_cmp q path) ((name, Some place) ∷ []) (at_key es q) (at_key fs q)) → OnOk res (SeedsObject path name place (table floor front es head puts) (table floor front fs head puts))
+    pub any_object_seeded : IsSome (head_at (table floor front es sets head puts) floor path) → OnOk res ((q : List ℕ) → SeedsPuts floor (eq_by_cmp key_cmp q path) ((name, Some place) ∷ []) (at_key es q) (at_key fs q)) → OnOk res (SeedsObject path name place (table floor front es sets head puts) (table floor front fs more head puts))
     any_object_seeded there ok = by res ok
       where
-        by : (res : Result T E) → OnOk res ((q : List ℕ) → SeedsPuts floor (eq_by_cmp key_cmp q path) ((name, Some place) ∷ []) (at_key es q) (at_key fs q)) → OnOk res (SeedsObject path name place (table floor front es head puts) (table floor front fs head puts))
-        by (Ok r) ok = object_seeded floor es fs head puts ((name, Some place) ∷ []) name path place refl ok front there
+        by : (res : Result T E) → OnOk res ((q : List ℕ) → SeedsPuts floor (eq_by_cmp key_cmp q path) ((name, Some place) ∷ []) (at_key es q) (at_key fs q)) → OnOk res (SeedsObject path name place (table floor front es sets head puts) (table floor front fs more head puts))
+        by (Ok r) ok = object_seeded floor es fs sets more head puts ((name, Some place) ∷ []) name path place refl ok front there
         by (Err r) ok = tt
 
-  pub any_same : OnErr res ((q : List ℕ) → SameSlot (at_key es q) (at_key fs q)) → OnErr res (IsSameTable (table floor front es head puts) (table floor front fs head puts))
+  pub any_same : OnErr res ((q : List ℕ) → SameSlot (at_key es q) (at_key fs q)) → OnErr res (IsSameTable (table floor front es sets head puts) (table floor front fs more head puts))
   any_same err = by res err
     where
-      by : (res : Result T E) → OnErr res ((q : List ℕ) → SameSlot (at_key es q) (at_key fs q)) → OnErr res (IsSameTable (table floor front es head puts) (table floor front fs head puts))
+      by : (res : Result T E) → OnErr res ((q : List ℕ) → SameSlot (at_key es q) (at_key fs q)) → OnErr res (IsSameTable (table floor front es sets head puts) (table floor front fs more head puts))
       by (Ok r) err = tt
-      by (Err r) err = same_table floor front es fs err head head puts puts
+      by (Err r) err = same_table floor front es fs err sets more head head puts puts
 
   pub any_kept : OnErr res ((x : List ℕ) → at_key fs x ≡ at_key es x) → OnErr res ((q : List ℕ) → SameSlot (at_key es q) (at_key fs q))
   any_kept err = by res err
@@ -260,12 +260,12 @@ module _ {T E : Type 0} (res : Result T E) (floor front : ℕ) (es fs : List (Li
     any_repo_up err = by res some seed others err
       where
         by : (res : Result T E) → OnOk res (IsSome (at_key fs path)) → OnOk res (IfSome (at_key fs path) (IsSeeded floor what)) → OnOk res ((x : List ℕ) → eq_by_cmp key_cmp path x ≡ false → at_key fs x ≡ at_key es x) → OnErr res ((x : List ℕ) → at_key fs x ≡ at_key es x) → AllUpTo front (from_entries fs)
-        by (Ok r) some seed others err = repo_up floor es fs head puts path what some seed others front at_floor up
+        by (Ok r) some seed others err = repo_up floor es fs sets more head puts path what some seed others front at_floor up
         by (Err r) some seed others err = same_up floor front es fs (same_all es fs err) up
 
-    pub any_repo_seeded : OnOk res (SeedsRepo path what (table floor front es head puts) (table floor front fs head puts))
+    pub any_repo_seeded : OnOk res (SeedsRepo path what (table floor front es sets head puts) (table floor front fs more head puts))
     any_repo_seeded = by res some seed others
       where
-        by : (res : Result T E) → OnOk res (IsSome (at_key fs path)) → OnOk res (IfSome (at_key fs path) (IsSeeded floor what)) → OnOk res ((x : List ℕ) → eq_by_cmp key_cmp path x ≡ false → at_key fs x ≡ at_key es x) → OnOk res (SeedsRepo path what (table floor front es head puts) (table floor front fs head puts))
-        by (Ok r) some seed others = repo_seeded floor es fs head puts path what some seed others front
+        by : (res : Result T E) → OnOk res (IsSome (at_key fs path)) → OnOk res (IfSome (at_key fs path) (IsSeeded floor what)) → OnOk res ((x : List ℕ) → eq_by_cmp key_cmp path x ≡ false → at_key fs x ≡ at_key es x) → OnOk res (SeedsRepo path what (table floor front es sets head puts) (table floor front fs more head puts))
+        by (Ok r) some seed others = repo_seeded floor es fs sets more head puts path what some seed others front
         by (Err r) some seed others = tt

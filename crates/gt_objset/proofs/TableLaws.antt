@@ -1,8 +1,9 @@
 -- Laws of the whole table.
-use Rattle.std.proofs.Common.{◌≡◌, ℕ, ◌+◌, false, List, [], Option, Some, None, Result, Ok, Err, IfSome, IfOk, refl, sym, ap, ◌∙◌, subst, arith}
+use Rattle.std.proofs.Common.{◌≡◌, ℕ, ◌+◌, false, true, List, [], Option, Some, None, Result, Ok, Err, IfSome, IfOk, refl, sym, ap, ◌∙◌, subst, arith}
 use Rattle.std.specs.Ordering.{eq_by_cmp}
 use Rattle.std.specs.FinMap as map
 use Rattle.std.specs.FinMap.{from_entries}
+use Rattle.std.specs.BTreeSet.{BTreeSet}
 use Rattle.gt_model.specs.Contents.{key_cmp}
 use Rattle.gt_model.specs.declared.change.Change.{Change}
 use Rattle.gt_model.specs.declared.entry.Entry.{Entry}
@@ -11,19 +12,23 @@ use Rattle.gt_objset.specs.declared.place.Place.{Place}
 use Rattle.gt_objset.specs.declared.head.HeadChange.{HeadChange}
 use Rattle.gt_model.specs.declared.change.Change.TheVariants.{Unlink}
 use Rattle.gt_objset.specs.Places.{Head, head_after, own_after}
+use Rattle.gt_objset.specs.Members.{notes}
 use Rattle.gt_objset.specs.Track.{Track, IsTrackUpTo, HasRoom, Puts}
 use Rattle.gt_objset.specs.Table.{Table, head_in_slot, own_in_slot, head_at, own_at, IsSlotUpTo, AllUpTo, head_change, Makes, IsPlanned, RoomHere, Changed, Steps, SameSlot, IsPrepared, Adds, IsSameTable}
 use Rattle.gt_objset.proofs.TrackLaws.{slot_more}
 use Rattle.gt_objset.proofs.StepLaws.{through, everywhere}
 
-abbrev pub table : ℕ → ℕ → List (List ℕ × Track) → HeadChange → List (List ℕ × Option Place) → Table
-table floor front es head puts = record { floor = floor; front = front; repos = from_entries es; head = head; puts = puts }
+abbrev pub PoolSets : Type 0
+PoolSets = List (List ℕ × BTreeSet (List ℕ))
 
-module _ (floor front : ℕ) (es : List (List ℕ × Track)) (head : HeadChange) (puts : List (List ℕ × Option Place)) where
-  pub head_found : (p : ℕ) (path : List ℕ) (slot : Option Track) → slot ≡ at_key es path → head_in_slot slot p ≡ head_at (table floor front es head puts) p path
+abbrev pub table : ℕ → ℕ → List (List ℕ × Track) → PoolSets → HeadChange → List (List ℕ × Option Place) → Table
+table floor front es sets head puts = record { floor = floor; front = front; repos = from_entries es; members = from_entries sets; head = head; puts = puts }
+
+module _ (floor front : ℕ) (es : List (List ℕ × Track)) (sets : PoolSets) (head : HeadChange) (puts : List (List ℕ × Option Place)) where
+  pub head_found : (p : ℕ) (path : List ℕ) (slot : Option Track) → slot ≡ at_key es path → head_in_slot slot p ≡ head_at (table floor front es sets head puts) p path
   head_found p path slot a = ap (λ s. head_in_slot s p) (a ∙ sym (get_key es path))
 
-  pub own_found : (p : ℕ) (path x : List ℕ) (slot : Option Track) → slot ≡ at_key es path → own_in_slot slot p x ≡ own_at (table floor front es head puts) p path x
+  pub own_found : (p : ℕ) (path x : List ℕ) (slot : Option Track) → slot ≡ at_key es path → own_in_slot slot p x ≡ own_at (table floor front es sets head puts) p path x
   own_found p path x slot a = ap (λ s. own_in_slot s p x) (a ∙ sym (get_key es path))
 
 pub none_up : (q : ℕ) (es : List (List ℕ × Track)) → es ≡ [] → AllUpTo q (from_entries es)
@@ -58,8 +63,8 @@ room_here front q puts said es path f e h =
     let R : List (List ℕ × Option Place) → Type 0 = λ w. IfSome (at_key es path) (HasRoom q w) in
     subst R (sym f) (subst Q (sym e) (if_room (front + 1) puts (at_key es path) (subst P (get_key es path) h)))
 
-module _ (floor front q : ℕ) (es fs : List (List ℕ × Track)) (head next : HeadChange) (puts : List (List ℕ × Option Place)) (e : Entry) (at_q : q ≡ front + 1)
-    (up : AllUpTo front (from_entries es)) (prepared : IsPrepared (table floor front es head puts) e)
+module _ (floor front q : ℕ) (es fs : List (List ℕ × Track)) (sets : PoolSets) (head next : HeadChange) (puts : List (List ℕ × Option Place)) (e : Entry) (at_q : q ≡ front + 1)
+    (up : AllUpTo front (from_entries es)) (prepared : IsPrepared (table floor front es sets head puts) e)
     (here : Changed (Puts q head puts) (at_key es e.path) (at_key fs e.path)) (others : (x : List ℕ) → eq_by_cmp key_cmp e.path x ≡ false → at_key fs x ≡ at_key es x) where
   abbrev old_slot : List ℕ → Option Track
   old_slot path = map.get (from_entries {R = key_cmp} es) path
@@ -85,7 +90,7 @@ module _ (floor front q : ℕ) (es fs : List (List ℕ × Track)) (head next : H
   pub added_up : AllUpTo q (from_entries fs)
   added_up = let P : ℕ → Type 0 = λ n. AllUpTo n (from_entries fs) in subst P (sym at_q) (λ path. (steps path).newest)
 
-  pub added : Adds e (table floor front es head puts) (table floor q fs next puts)
+  pub added : Adds e (table floor front es sets head puts) (table floor q fs sets next puts)
   added = record {
     floor = refl;
     front = at_q;
@@ -97,6 +102,9 @@ module _ (floor front q : ℕ) (es fs : List (List ℕ × Track)) (head next : H
 
 -- ---- taking memory
 
+pub notes_at : (sets : PoolSets) (path : List ℕ) (given : Option (Option (List ℕ))) → notes (λ w. map.get (from_entries {R = key_cmp} sets) w) path given ≡ notes (λ w. at_key sets w) path given
+notes_at sets path given = ap (λ s. notes s path given) (λ i w. get_key sets w i)
+
 module _ (floor front : ℕ) (es fs : List (List ℕ × Track)) (h : (path : List ℕ) → SameSlot (at_key es path) (at_key fs path)) where
   pub slots : (path : List ℕ) → SameSlot (map.get (from_entries {R = key_cmp} es) path) (map.get (from_entries {R = key_cmp} fs) path)
   slots path =
@@ -107,28 +115,29 @@ module _ (floor front : ℕ) (es fs : List (List ℕ × Track)) (h : (path : Lis
   pub same_up : AllUpTo front (from_entries es) → AllUpTo front (from_entries fs)
   same_up up path = (slots path).newest front (up path)
 
-  pub same_table : (head next : HeadChange) (puts more : List (List ℕ × Option Place)) → IsSameTable (table floor front es head puts) (table floor front fs next more)
-  same_table head next puts more = record {
+  pub same_table : (sets more : PoolSets) (head next : HeadChange) (puts said : List (List ℕ × Option Place)) → IsSameTable (table floor front es sets head puts) (table floor front fs more next said)
+  same_table sets more head next puts said = record {
     floor = refl;
     front = refl;
     heads = λ p path. (slots path).head p;
     own = λ p path x. (slots path).own p x;
   }
 
-  pub ready : (head : HeadChange) (puts said : List (List ℕ × Option Place)) (e : Entry) → head ≡ head_change e.change
+  pub ready : (sets : PoolSets) (head : HeadChange) (puts said : List (List ℕ × Option Place)) (e : Entry) → head ≡ head_change e.change
       → IsPlanned e.change e.position e.path (head_in_slot (at_key es e.path) front) (λ p x. own_in_slot (at_key es p) front x) puts
-      → said ≡ puts → RoomHere (front + 1) said (at_key fs e.path) → IsPrepared (table floor front fs head puts) e
-  ready head puts said e is_head planned is_puts room =
-      let own_eq : (λ p x. own_in_slot (at_key es p) front x) ≡ own_at (table floor front fs head puts) front = λ i p x. sym (ap (λ s. own_in_slot s front x) (get_key fs p) ∙ (h p).own front x) i in
-      let head_eq : head_in_slot (at_key es e.path) front ≡ head_at (table floor front fs head puts) front e.path = sym (ap (λ s. head_in_slot s front) (get_key fs e.path) ∙ (h e.path).head front) in
+      → said ≡ puts → RoomHere (front + 1) said (at_key fs e.path) → notes (λ w. at_key sets w) e.path head.pool ≡ true → IsPrepared (table floor front fs sets head puts) e
+  ready sets head puts said e is_head planned is_puts room noted =
+      let own_eq : (λ p x. own_in_slot (at_key es p) front x) ≡ own_at (table floor front fs sets head puts) front = λ i p x. sym (ap (λ s. own_in_slot s front x) (get_key fs p) ∙ (h p).own front x) i in
+      let head_eq : head_in_slot (at_key es e.path) front ≡ head_at (table floor front fs sets head puts) front e.path = sym (ap (λ s. head_in_slot s front) (get_key fs e.path) ∙ (h e.path).head front) in
       let P : (List ℕ → List ℕ → Option Place) → Type 0 = λ own. IsPlanned e.change e.position e.path (head_in_slot (at_key es e.path) front) own puts in
-      let Q : Option Head → Type 0 = λ o. IsPlanned e.change e.position e.path o (own_at (table floor front fs head puts) front) puts in
+      let Q : Option Head → Type 0 = λ o. IsPlanned e.change e.position e.path o (own_at (table floor front fs sets head puts) front) puts in
       let R : Option Track → Type 0 = λ s. RoomHere (front + 1) puts s in
       let S : List (List ℕ × Option Place) → Type 0 = λ w. RoomHere (front + 1) w (at_key fs e.path) in
       record {
         head = is_head;
         puts = subst Q head_eq (subst P own_eq planned);
         room = subst R (sym (get_key fs e.path)) (subst S is_puts room);
+        noted = notes_at sets e.path head.pool ∙ noted;
       }
 
 pub unlink_planned : {E : Type 0} (res : Result (List (List ℕ × Option Place)) E) (ch : Change) (file n : ℕ) (path : List ℕ) (head : Option Head) (own : List ℕ → List ℕ → Option Place) → ch ≡ Unlink file

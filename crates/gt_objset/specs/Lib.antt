@@ -5,3 +5,4 @@ pub mod Agree
 pub mod Lists
 pub mod Seeds
 pub mod Members
+pub mod Kept

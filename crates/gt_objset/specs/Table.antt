@@ -3,6 +3,7 @@ use Rattle.std.specs.Prelude.{◌≡◌, ℕ, ◌+◌, ◌≤◌, Bool, true, fa
 use Rattle.std.specs.Option.{unwrap_or}
 use Rattle.std.specs.FinMap as map
 use Rattle.std.specs.FinMap.{FinMap, code}
+use Rattle.std.specs.BTreeSet.{BTreeSet}
 use Rattle.std.specs.Coded.{Coded, code_by, coded×, coded_ℕ, coded_list, coded_option, coded_bool}
 use Rattle.std.proofs.Common.{refl}
 use Rattle.gt_model.specs.declared.change.Change.{Change}
@@ -12,13 +13,15 @@ use Rattle.gt_model.specs.Contents.{key_cmp}
 use Rattle.gt_objset.specs.declared.place.Place.{Place}
 use Rattle.gt_objset.specs.declared.head.HeadChange.{HeadChange}
 use Rattle.gt_objset.specs.Places.{Head, last_put, seen, own_here, own_if, head_after, own_after}
+use Rattle.gt_objset.specs.Members.{notes}
 use Rattle.gt_objset.specs.Track.{Track, track_code, place_code, head_in_track, own_in_track, IsTrackUpTo, HasRoom}
 
--- the floor, the front, each repository that was ever there since the floor, and what was prepared last
+-- the floor, the front, each repository that was ever there since the floor, for each pool those that may have been given it since then, and what was prepared last
 pub record Table : Type 0 where
   pub floor : ℕ
   pub front : ℕ
   pub repos : FinMap key_cmp Track
+  pub members : FinMap key_cmp (BTreeSet (List ℕ))
   pub head : HeadChange
   pub puts : List (List ℕ × Option Place)
 
@@ -27,11 +30,14 @@ head_code =
     code_by (Option Bool × (Option (Option Bool) × Option (Option (List ℕ)))) (coded× (coded_option coded_bool) (coded× (coded_option (coded_option coded_bool)) (coded_option (coded_option (coded_list coded_ℕ)))))
     (λ h. (h.life, (h.kind, h.pool))) (λ p. record { life = p.0; kind = p.1.0; pool = p.1.1 }) (λ _. refl)
 
+abbrev pub paths_code : Coded (BTreeSet (List ℕ))
+paths_code = code_by (List (List ℕ)) (coded_list (coded_list coded_ℕ)) (λ s. s.keys) (λ ks. record { keys = ks }) (λ _. refl)
+
 abbrev pub table_code : Coded Table
 table_code =
-    code_by ((ℕ × ℕ) × (FinMap key_cmp Track × (HeadChange × List (List ℕ × Option Place))))
-    (coded× (coded× coded_ℕ coded_ℕ) (coded× (code (coded_list coded_ℕ) track_code) (coded× head_code (coded_list (coded× (coded_list coded_ℕ) (coded_option place_code))))))
-    (λ t. ((t.floor, t.front), (t.repos, (t.head, t.puts)))) (λ p. record { floor = p.0.0; front = p.0.1; repos = p.1.0; head = p.1.1.0; puts = p.1.1.1 }) (λ _. refl)
+    code_by ((ℕ × ℕ) × ((FinMap key_cmp Track × FinMap key_cmp (BTreeSet (List ℕ))) × (HeadChange × List (List ℕ × Option Place))))
+    (coded× (coded× coded_ℕ coded_ℕ) (coded× (coded× (code (coded_list coded_ℕ) track_code) (code (coded_list coded_ℕ) paths_code)) (coded× head_code (coded_list (coded× (coded_list coded_ℕ) (coded_option place_code))))))
+    (λ t. ((t.floor, t.front), ((t.repos, t.members), (t.head, t.puts)))) (λ p. record { floor = p.0.0; front = p.0.1; repos = p.1.0.0; members = p.1.0.1; head = p.1.1.0; puts = p.1.1.1 }) (λ _. refl)
 
 -- ---- what the table says of a position
 
@@ -86,11 +92,12 @@ abbrev pub RoomHere : ℕ → List (List ℕ × Option Place) → Option Track �
 RoomHere q puts None = ⊥
 RoomHere q puts (Some t) = HasRoom q puts t
 
--- All memory of adding the entry is taken, and what it changes is known.
+-- All memory of adding the entry is taken, and what it changes is known. Where that gives a pool, the pool's set has the entry's path already.
 pub record IsPrepared (t : Table) (e : Entry) : Type 0 where
   pub head : t.head ≡ head_change e.change
   pub puts : IsPlanned e.change e.position e.path (head_at t t.front e.path) (own_at t t.front) t.puts
   pub room : RoomHere (t.front + 1) t.puts (map.get t.repos e.path)
+  pub noted : notes (λ pool. map.get t.members pool) e.path t.head.pool ≡ true
 
 -- ---- steps
 

@@ -1,4 +1,4 @@
-// The repositories that have a pool, of its candidates where all of them are known, and else of all.
+// The repositories that have a pool, of those that were given it since the floor.
 ghost use Rattle.std.specs.Prelude.{◌≡◌, ℕ, List, filter, find, IfOk};
 ghost use Rattle.std.specs.BTreeMap as tree;
 ghost use Rattle.std.specs.List.Sorted.{IsStrictlySortedBy};
@@ -6,7 +6,7 @@ ghost use Rattle.std.specs.Option.{option_copied};
 ghost use Rattle.gt_model.specs.Contents.{key_cmp, is_this};
 ghost use Rattle.gt_objset.specs.Places.{pool_in};
 ghost use Rattle.gt_objset.specs.Table.{head_in_slot};
-ghost use Rattle.gt_objset.specs.Members.{Covers};
+ghost use Rattle.gt_objset.specs.Kept.{Covers};
 
 use crate::listing::push_path;
 use crate::members::Members;
@@ -24,15 +24,12 @@ pub fn paths_in_pool(
     at: u64,
     pool: &RepoPath,
 ) -> Result<Paths, NoMemory>
-    requires { Covers members.now at (λ q. tree.get key_cmp repos.now q) }
+    requires { Covers (λ w. tree.get key_cmp members.now w) at (λ q. tree.get key_cmp repos.now q) }
     ensures ordered { tree.IsOrdered key_cmp repos.now }
     ensures paths { IfOk result (λ paths. paths ≡ filter (λ q. is_this (pool_in (head_in_slot (tree.get key_cmp repos.now q) at)) pool.now) (tree.keys repos.now)) }
 {
     let _ = repos.len();
-    if !members.whole {
-        return paths_of_all(repos, alloc, at, pool);
-    }
-    match members.sets.get(pool) {
+    match members.get(pool) {
         None => Ok(ListOf::new(alloc)),
         Some(candidates) => paths_of(repos, candidates, alloc, at, pool),
     }
@@ -45,15 +42,12 @@ pub fn least_in_pool<'a>(
     at: u64,
     pool: &RepoPath,
 ) -> Option<&'a RepoPath>
-    requires { Covers members.now at (λ q. tree.get key_cmp repos.now q) }
+    requires { Covers (λ w. tree.get key_cmp members.now w) at (λ q. tree.get key_cmp repos.now q) }
     ensures ordered { tree.IsOrdered key_cmp repos.now }
     ensures least { option_copied result ≡ find (λ q. is_this (pool_in (head_in_slot (tree.get key_cmp repos.now q) at)) pool.now) (tree.keys repos.now) }
 {
     let _ = repos.len();
-    if !members.whole {
-        return least_of_all(repos, at, pool);
-    }
-    match members.sets.get(pool) {
+    match members.get(pool) {
         None => None,
         Some(candidates) => least_of(repos, candidates, at, pool),
     }
@@ -90,31 +84,6 @@ fn least_of<'a>(
     ensures least { option_copied result ≡ find (λ q. is_this (pool_in (head_in_slot (tree.get key_cmp repos.now q) at)) pool.now) candidates.now.keys }
 {
     for path in candidates.iter() {
-        if is_in_pool(repos, at, path, pool) {
-            return Some(path);
-        }
-    }
-    None
-}
-
-fn paths_of_all(repos: &Repos, alloc: Global, at: u64, pool: &RepoPath) -> Result<Paths, NoMemory>
-    ensures { IfOk result (λ paths. paths ≡ filter (λ q. is_this (pool_in (head_in_slot (tree.get key_cmp repos.now q) at)) pool.now) (tree.keys repos.now)) }
-{
-    let mut paths = ListOf::new(alloc);
-    for path in repos.keys() {
-        if is_in_pool(repos, at, path, pool) {
-            if let Err(error) = push_path(&mut paths, path) {
-                return Err(error);
-            }
-        }
-    }
-    Ok(paths)
-}
-
-fn least_of_all<'a>(repos: &'a Repos, at: u64, pool: &RepoPath) -> Option<&'a RepoPath>
-    ensures { option_copied result ≡ find (λ q. is_this (pool_in (head_in_slot (tree.get key_cmp repos.now q) at)) pool.now) (tree.keys repos.now) }
-{
-    for path in repos.keys() {
         if is_in_pool(repos, at, path, pool) {
             return Some(path);
         }

@@ -14,7 +14,7 @@ use crate::Place;
 use crate::head::{HeadChange, head_change};
 use crate::in_pool::{least_in_pool, paths_in_pool};
 use crate::listing::paths_there;
-use crate::members::Members;
+use crate::members::{Members, note, note_seed};
 use crate::merging::in_one;
 use crate::plan::puts_of;
 use crate::repos::{Repos, put_repo, reserve_repo};
@@ -41,15 +41,15 @@ pub struct ObjSet {
 impl Model for ObjSet {
     ghost use Rattle.std.specs.FinMap as map;
     ghost use Rattle.gt_objset.specs.Table.{Table, table_code};
-    ghost use Rattle.gt_objset.specs.Members.{IsKept};
+    ghost use Rattle.gt_objset.specs.Kept.{IsKept};
 
     ghost Value = { Table };
 
     ghost coded = { table_code };
 
-    ghost invariant = { λ t. IsKept t.floor t.front t.members (map.from_entries t.repos.entries) };
+    ghost invariant = { λ t. IsKept t.floor t.front (map.from_entries t.members.entries) (map.from_entries t.repos.entries) };
 
-    ghost view = { λ t. record { floor = t.floor; front = t.front; repos = map.from_entries t.repos.entries; head = t.head; puts = t.puts } };
+    ghost view = { λ t. record { floor = t.floor; front = t.front; repos = map.from_entries t.repos.entries; members = map.from_entries t.members.entries; head = t.head; puts = t.puts } };
 }
 
 impl ObjSet {
@@ -62,7 +62,7 @@ impl ObjSet {
             floor,
             front: floor,
             repos: BTreeMap::new(alloc),
-            members: Members::new(alloc),
+            members: BTreeMap::new(alloc),
             head: HeadChange::none(),
             puts: ListOf::new(alloc),
         })
@@ -82,7 +82,7 @@ impl ObjSet {
         ensures ok { OnOk result (SeedsRepo path.now (record { is_pool = is_pool; pool = option_copied pool.entry }) self.old self.new) }
         ensures err { OnErr result (IsSameTable self.old self.new) }
     {
-        if let Err(error) = self.members.note_seed(alloc, path, pool) {
+        if let Err(error) = note_seed(&mut self.members, alloc, path, pool) {
             return Err(error);
         }
         seed_repo(&mut self.repos, alloc, self.floor, path, is_pool, pool)
@@ -133,7 +133,7 @@ impl ObjSet {
             Ok(puts) => puts,
             Err(error) => return Err(error),
         };
-        if let Err(error) = self.members.note(alloc, &entry.path, &head) {
+        if let Err(error) = note(&mut self.members, alloc, &entry.path, &head) {
             return Err(error);
         }
         if let Err(error) = reserve_repo(&mut self.repos, alloc, &entry.path, puts.as_slice()) {
@@ -153,7 +153,6 @@ impl ObjSet {
     {
         let position = entry.position;
         let head = mem::replace(&mut self.head, HeadChange::none());
-        self.members.admit(&entry.path, &head);
         put_repo(
             &mut self.repos,
             position,

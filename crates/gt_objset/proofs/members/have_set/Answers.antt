@@ -6,5 +6,5 @@ use Rattle.gt_objset.proofs.members.have_set.Goals as goal
 
 pub returns-else-contains_key-clause-same : goal.returns-else-contains_key-clause-same
 returns-else-contains_key-clause-same c =
-    let none : at_key c.args.sets.now.entries c.args.pool.now ≡ None = grind (arith, common_steps) in
-    set_added c.args.sets.now.entries c.add_set.new.sets.entries c.args.pool.now c.add_set.ensures.others none c.add_set.ensures.here
+    let none : at_key c.args.members.now.entries c.args.pool.now ≡ None = grind (arith, common_steps) in
+    set_added c.args.members.now.entries c.add_set.new.members.entries c.args.pool.now c.add_set.ensures.others none c.add_set.ensures.here

@@ -5,7 +5,7 @@ use Rattle.gt_objset.proofs.MemberLaws.{none_cover}
 use Rattle.gt_objset.proofs.objset.ObjSet.start.Goals as goal
 
 pub invariant_of-result : goal.invariant_of-result
-invariant_of-result c = record { order = omega arith; newest = none_up c.args.floor c.new.result.entries c.new.ensures.empty; members = none_cover c.args.floor c.new-2.result c.new.result.entries c.new.ensures.empty }
+invariant_of-result c = record { order = omega arith; newest = none_up c.args.floor c.new.result.entries c.new.ensures.empty; covers = none_cover c.args.floor c.new-2.result.entries c.new.result.entries c.new.ensures.empty }
 
 pub returns-clause-empty : goal.returns-clause-empty
-returns-clause-empty c = empty_agrees c.args.floor c.new.result.entries c.none.result c.new-3.result c.new.ensures.empty
+returns-clause-empty c = empty_agrees c.args.floor c.new.result.entries c.new-2.result.entries c.none.result c.new-3.result c.new.ensures.empty

@@ -1,4 +1,3 @@
-use Rattle.std.proofs.Common.{◌∙◌}
 use Rattle.gt_versions.proofs.Keys.{at_key}
 use Rattle.gt_objset.proofs.TableLaws.{up_here, room_here, added, added_up, as_given}
 use Rattle.gt_objset.proofs.MemberLaws.{added_kept}
@@ -20,14 +19,14 @@ invariant_of-self c =
     let next = rw (← c.self.view_is) at c.requires.next in
     let prepared = rw (← c.self.view_is) at c.requires.prepared in
     let given = as_given c.args.entry.now.position c.self.inside.head c.replace-head.result c.self.inside.puts c.as_slice.result.now (at_key c.self.inside.repos.entries c.args.entry.now.path) (at_key c.put_repo.new.repos.entries c.args.entry.now.path) c.replace-head.ensures.value c.as_slice.ensures c.put_repo.ensures.here in
-    let up = added_up c.self.inside.floor c.self.inside.front c.args.entry.now.position c.self.inside.repos.entries c.put_repo.new.repos.entries c.self.inside.head c.none.result c.self.inside.puts c.args.entry.now next c.self.invariant.newest prepared given c.put_repo.ensures.others in
-    let adds = added c.self.inside.floor c.self.inside.front c.args.entry.now.position c.self.inside.repos.entries c.put_repo.new.repos.entries c.self.inside.head c.replace-head.new.dest c.self.inside.puts c.args.entry.now next c.self.invariant.newest prepared given c.put_repo.ensures.others in
-    added_kept c.self.inside.floor c.self.inside.front c.args.entry.now.position c.self.inside.members c.admit.new.self c.self.inside.repos.entries c.put_repo.new.repos.entries c.self.inside.head c.replace-head.new.dest c.self.inside.puts c.args.entry.now c.replace-head.result
-    next up adds (c.replace-head.ensures.value ∙ prepared.head) c.admit.ensures.whole c.admit.ensures.same c.self.invariant
+    let up = added_up c.self.inside.floor c.self.inside.front c.args.entry.now.position c.self.inside.repos.entries c.put_repo.new.repos.entries c.self.inside.members.entries c.self.inside.head c.none.result c.self.inside.puts c.args.entry.now next c.self.invariant.newest prepared given c.put_repo.ensures.others in
+    let adds = added c.self.inside.floor c.self.inside.front c.args.entry.now.position c.self.inside.repos.entries c.put_repo.new.repos.entries c.self.inside.members.entries c.self.inside.head c.replace-head.new.dest c.self.inside.puts c.args.entry.now next c.self.invariant.newest prepared given c.put_repo.ensures.others in
+    added_kept c.self.inside.floor c.self.inside.front c.args.entry.now.position c.self.inside.repos.entries c.put_repo.new.repos.entries c.self.inside.members.entries c.self.inside.head c.replace-head.new.dest c.self.inside.puts c.args.entry.now
+    next up adds prepared c.self.invariant
 
 pub returns : goal.returns
 returns c =
     let next = rw (← c.self.view_is) at c.requires.next in
     let prepared = rw (← c.self.view_is) at c.requires.prepared in
     let given = as_given c.args.entry.now.position c.self.inside.head c.replace-head.result c.self.inside.puts c.as_slice.result.now (at_key c.self.inside.repos.entries c.args.entry.now.path) (at_key c.put_repo.new.repos.entries c.args.entry.now.path) c.replace-head.ensures.value c.as_slice.ensures c.put_repo.ensures.here in
-    rw (← c.self.view_is) (added c.self.inside.floor c.self.inside.front c.args.entry.now.position c.self.inside.repos.entries c.put_repo.new.repos.entries c.self.inside.head c.replace-head.new.dest c.self.inside.puts c.args.entry.now next c.self.invariant.newest prepared given c.put_repo.ensures.others)
+    rw (← c.self.view_is) (added c.self.inside.floor c.self.inside.front c.args.entry.now.position c.self.inside.repos.entries c.put_repo.new.repos.entries c.self.inside.members.entries c.self.inside.head c.replace-head.new.dest c.self.inside.puts c.args.entry.now next c.self.invariant.newest prepared given c.put_repo.ensures.others)
