@@ -52,6 +52,8 @@ impl Log {
         ensures len { IsTrue D.tells → IfOk result (λ log. log.len ≡ content_length ((D.view disk.old).reads gate_file)) }
         ensures gate { IsTrue D.tells → OnOk result (now (D.view disk.new) gate_file ≡ still ((D.view disk.old).reads gate_file)) }
         ensures narrows { IsTrue D.tells → Narrows (D.view disk.old) (D.view disk.new) }
+        // At each moment no other file changes.
+        ensures run { IsTrue D.tells → Runs gate_file AnyState (D.view disk.old) (D.view disk.new) }
         ensures later { (D.view disk.old).clock ≤ (D.view disk.new).clock }
         ensures reads { IsTrue D.tells → (D.view disk.new).reads ≡ (D.view disk.old).reads }
         ensures stands { IsTrue D.tells → IfOk result (λ log. (entries : List (List ℕ)) → Recovers (D.view disk.old).reads entries → KeepsEntries entries (now (D.view disk.old))

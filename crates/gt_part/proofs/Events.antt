@@ -1,5 +1,5 @@
 -- The parts of an event, from what the log says of them.
-use Rattle.std.proofs.Common.{◌≡◌, ◌⊎◌, inl, inr, ⊎_elim, ℕ, ◌<◌, ◌≤◌, Bool, true, false, List, [], ◌∷◌, ◌++◌, length, map, Option, Some, None, Ok, refl, sym, ◌∙◌, ap, subst, arith, length-append}
+use Rattle.std.proofs.Common.{◌≡◌, ◌⊎◌, inl, inr, ⊎_elim, ℕ, ◌<◌, ◌≤◌, Bool, true, false, List, [], ◌∷◌, ◌++◌, length, map, Option, Some, None, Ok, refl, sym, ◌∙◌, subst, arith, length-append}
 use Rattle.std.proofs.lemmas.List.{length-map}
 use Rattle.gt_disk.specs.Files.{Files, States, View, now}
 use Rattle.gt_disk.specs.Moments.{Since}
@@ -11,7 +11,7 @@ use Rattle.gt_model.specs.Machine.{State, with_doubt, line, Settled}
 use Rattle.gt_part.specs.Spelling.{encode}
 use Rattle.gt_part.specs.Recovery.{IsKept}
 use Rattle.gt_part.specs.Stored.{Gives, GivesThis, GivesEither, FilesHave, Stored, Moves}
-use Rattle.gt_part.proofs.Recovering.{kept_front, stands_image, doubts_image, adding_image, map_last}
+use Rattle.gt_part.proofs.Recovering.{kept_front, gives_as, stands_image, doubts_image, adding_image, map_last}
 
 pub since_weaken : (P Q : States → Type 0) (v w : View) → Since P v w → ((s : States) → P s → Q s) → Since Q v w
 since_weaken P Q v w s imp = record { later = s.later; past = s.past; each = λ m lt le. imp (w.at m) (s.each m lt le) }
@@ -21,7 +21,7 @@ module _ (limits : Limits) where
   pub stored_gives : (s : State) (states : States) → Stored limits s states → GivesThis limits s states
   stored_gives s states stored image is = by s.log s.doubt stored.files stored.legal stored.within
     where
-      by : (log : List Entry) (doubt : Option Entry) → FilesHave log doubt states → IsKept (with_doubt log doubt) → length (with_doubt log doubt) ≤ limits.positions → Gives limits (record { log = log; doubt = doubt; pins = [] }) image
+      by : (log : List Entry) (doubt : Option Entry) → FilesHave log doubt states → IsKept (with_doubt log doubt) → length (with_doubt log doubt) ≤ limits.positions → Gives limits (record { log = log; doubt = doubt; pins = [] }) states image
       by log None files legal within = inl (stands_image limits log states files legal within image is)
       by log (Some u) files legal within = doubts_image limits log u (kept_front log (u ∷ []) legal) legal within image states files is
 
@@ -58,7 +58,7 @@ module _ (limits : Limits) where
       let end : StoredBy (old.log ++ u ∷ []) None (now w) = record { files = subst (λ (e : List (List ℕ)). Stands e (now w)) (sym (map_last old.log u)) (after s.files); legal = more; within = within } in (
         stored_of new (now w) (old.log ++ u ∷ []) None log_is doubt_is end,
         since_weaken (Adding (map encode old.log) (encode u) (now v)) (GivesEither limits old new) v w (added s.files) (λ states a image im.
-            ⊎_elim (λ out. inl (inl out)) (λ in_. inr (inl (in_ ∙ ap Ok (sym log_is)))) (adding_image limits old.log u s.legal more within image (now v) states a im)),
+            ⊎_elim (λ out. inl (inl out)) (λ in_. inr (inl (gives_as limits (old.log ++ u ∷ []) new.log states image (sym log_is) in_))) (adding_image limits old.log u s.legal more within image (now v) states a im)),
       )
 
   pub moves_unsure : (old new : State) (u : Entry) (v w : View) → old.doubt ≡ None → new.log ≡ old.log → new.doubt ≡ Some u → (IsKept old.log → IsKept (old.log ++ u ∷ [])) → length old.log < limits.positions
@@ -70,7 +70,7 @@ module _ (limits : Limits) where
       let end : StoredBy old.log (Some u) (now w) = record { files = after s.files; legal = more; within = within } in (
         stored_of new (now w) old.log (Some u) log_is doubt_is end,
         since_weaken (Adding (map encode old.log) (encode u) (now v)) (GivesEither limits old new) v w (added s.files) (λ states a image im.
-            ⊎_elim (λ out. inl (inl out)) (λ in_. inr (inr (in_ ∙ ap Ok (sym (line_is new old.log (Some u) log_is doubt_is))))) (adding_image limits old.log u s.legal more within image (now v) states a im)),
+            ⊎_elim (λ out. inl (inl out)) (λ in_. inr (inr (gives_as limits (old.log ++ u ∷ []) (line new) states image (sym (line_is new old.log (Some u) log_is doubt_is)) in_))) (adding_image limits old.log u s.legal more within image (now v) states a im)),
       )
 
   -- nothing was added
@@ -92,7 +92,7 @@ module _ (limits : Limits) where
   during_doubt old u v w is stored added =
       let s = stored_as old (now v) old.log (Some u) refl is stored in
       since_weaken (Adding (map encode old.log) (encode u) (now v)) (GivesThis limits old) v w (added s.files) (λ states a image im.
-      ⊎_elim (λ out. inl out) (λ in_. inr (in_ ∙ ap (λ (d : Option Entry). Ok (with_doubt old.log d)) (sym is))) (adding_image limits old.log u (kept_front old.log (u ∷ []) s.legal) s.legal s.within image (now v) states a im))
+      ⊎_elim (λ out. inl out) (λ in_. inr (gives_as limits (old.log ++ u ∷ []) (line old) states image (sym (line_is old old.log (Some u) refl is)) in_)) (adding_image limits old.log u (kept_front old.log (u ∷ []) s.legal) s.legal s.within image (now v) states a im))
 
   pub settled : (old new : State) (u : Entry) (b : Bool) (len : ℕ) (v w : View) → old.doubt ≡ Some u
       → (Doubts (map encode old.log) (encode u) (now v) → Added old.log u v w)
@@ -119,11 +119,11 @@ module _ (limits : Limits) where
   -- ---- one after the other
 
   -- what a settled state gives the old one gives too
-  gives_settled : (old new : State) (image : Files) → Settled old new.log → new.doubt ≡ None → Gives limits new image → Gives limits old image
-  gives_settled old new image (inl is) none (inl r) = inl (r ∙ ap Ok is)
-  gives_settled old new image (inl is) none (inr r) = inl (r ∙ ap Ok (line_is new old.log None is none))
-  gives_settled old new image (inr is) none (inl r) = inr (r ∙ ap Ok is)
-  gives_settled old new image (inr is) none (inr r) = inr (r ∙ ap Ok (line_is new (line old) None is none))
+  gives_settled : (old new : State) (states : States) (image : Files) → Settled old new.log → new.doubt ≡ None → Gives limits new states image → Gives limits old states image
+  gives_settled old new states image (inl is) none (inl r) = inl (gives_as limits new.log old.log states image is r)
+  gives_settled old new states image (inl is) none (inr r) = inl (gives_as limits (line new) old.log states image (line_is new old.log None is none) r)
+  gives_settled old new states image (inr is) none (inl r) = inr (gives_as limits new.log (line old) states image is r)
+  gives_settled old new states image (inr is) none (inr r) = inr (gives_as limits (line new) (line old) states image (line_is new (line old) None is none) r)
 
   pub settled_moves : (old mid new : State) (u v w : View) → Settled old mid.log → mid.doubt ≡ None → Settling old mid u v → Moves limits mid new v w → Moves limits old new u w
   settled_moves old mid new u v w s none settling moves stored =
@@ -132,7 +132,7 @@ module _ (limits : Limits) where
         b.0,
         since_join (GivesEither limits old new) u v w
             (since_weaken (GivesThis limits old) (GivesEither limits old new) u v a.1 (λ states gives image is. inl (gives image is)))
-            (since_weaken (GivesEither limits mid new) (GivesEither limits old new) v w b.1 (λ states gives image is. ⊎_elim (λ before. inl (gives_settled old mid image s none before)) (λ after. inr after) (gives image is))),
+            (since_weaken (GivesEither limits mid new) (GivesEither limits old new) v w b.1 (λ states gives image is. ⊎_elim (λ before. inl (gives_settled old mid states image s none before)) (λ after. inr after) (gives image is))),
       )
 
   pub settling_moves : (old mid : State) (u v : View) → Settling old mid u v → Moves limits old mid u v

@@ -1,29 +1,32 @@
 -- How a history goes on.
-use Rattle.std.proofs.Common.{◌≡◌, ◌⊎◌, inl, inr, ⊎_elim, ℕ, ◌+◌, ◌≤◌, List, [], ◌∷◌, ◌++◌, length, map, reverse, Option, Some, None, Result, Ok, Err, refl, sym, ◌∙◌, ap, subst, arith, IsTrue, length-append, append_assoc, IfOk, IfErr, ◌-◌, ◌^◌, min, Bool, true, false}
+use Rattle.std.proofs.Common.{◌≡◌, ◌≢◌, ◌⊎◌, inl, inr, ⊎_elim, ℕ, ◌+◌, ◌<◌, ◌≤◌, List, [], ◌∷◌, ◌++◌, length, map, reverse, None, Result, Ok, Err, refl, sym, ◌∙◌, ap, subst, arith, IsTrue, append_assoc, IfOk, IfErr, ◌-◌, ◌^◌, min, Bool, true, false, cond, nat_lt}
 use Rattle.std.specs.Prelude.{if◌then◌else◌}
 use Rattle.std.proofs.lemmas.Bool.{cases_lt}
+use Rattle.std.proofs.lemmas.Bool.Decides.{nat_tests}
 use Rattle.std.proofs.lemmas.List.{reverse-append, length-map}
 use Rattle.gt_disk.specs.Files.{Files, States, View, now, IsImage, still, Quiet, Rose}
-use Rattle.gt_disk.specs.Moments.{Since, Narrows}
+use Rattle.gt_disk.specs.declared.FileId.{FileId}
+use Rattle.gt_disk.specs.Moments.{Since, Narrows, Runs, AnyState}
+use Rattle.gt_disk.proofs.Steps.{since_quiet}
 use Rattle.gt_log.specs.declared.mount_error.MountError.{MountError}
-use Rattle.gt_log.specs.Log.{Stands, KeepsEntries, Recovers, entry_file}
+use Rattle.gt_log.specs.Log.{Stands, KeepsEntries, Recovers, gate_file, entry_file}
 use Rattle.gt_log.proofs.Images.{image_still}
 use Rattle.gt_model.specs.declared.entry.Entry.{Entry}
 use Rattle.gt_model.specs.declared.limits.Limits.{Limits}
 use Rattle.gt_model.specs.declared.turn.Turn.{Turn}
-use Rattle.gt_model.specs.Machine.{State, sure, line, with_doubt, Settles, is_faulty}
+use Rattle.gt_model.specs.Machine.{State, sure, line, Settles, is_faulty}
 use Rattle.gt_model.specs.Histories.{Happening, event, opened, last_tick, last_state, Happens}
 use Rattle.gt_part.specs.Spelling.{encode}
 use Rattle.gt_part.specs.Recovery.{recover, IsKept, KeepsFiles, IsGood}
-use Rattle.gt_part.specs.Stored.{Gives, GivesThis, GivesEither, FilesHave, Stored, Moves}
-use Rattle.gt_part.specs.Crash.{Holds}
+use Rattle.gt_part.specs.Stored.{GivesLog, GivesThis, GivesEither, Stored, Moves}
+use Rattle.gt_part.specs.Crash.{Run, CrashAt, Holds}
 use Rattle.gt_part.specs.Shown.{Shown, IsRun, HasRun, Continues, OneOpening, KeepsPast, faults_in}
 use Rattle.gt_part.specs.Mounts.{Mounts}
-use Rattle.gt_part.proofs.Recovering.{recovered, map_last}
+use Rattle.gt_part.proofs.Recovering.{recovered}
 use Rattle.gt_part.proofs.Events.{stored_gives}
 use Rattle.gt_part.proofs.Safe.{safe, safe_after, run_past, run_sound}
 use Rattle.gt_sound.specs.Sound.{AreSound, IsNamed}
-use Rattle.gt_sound.proofs.Logs.{log_sound}
+use Rattle.gt_sound.proofs.Logs.{log_sound, empty_sound}
 use Rattle.gt_sound.proofs.Steps.{step_sound, opening_sound}
 
 reverse-push : (trail : List Turn) (turn : Turn) → turn ∷ reverse trail ≡ reverse (trail ++ turn ∷ [])
@@ -70,49 +73,115 @@ past_event limits start begin history v w s new trail run moves = past_since (Gi
 
 -- ---- what a run says of the disk
 
-keeps : (log : List Entry) (states : States) → KeepsEntries (map encode log) states → KeepsFiles log states
-keeps log states each k lt = (_, each k (omega (arith, lt, length-map log encode)))
-
-keeps_front : (log : List Entry) (u : Entry) (states : States) → KeepsFiles (log ++ u ∷ []) states → KeepsFiles log states
-keeps_front log u states each k lt = each k (omega (arith, lt, length-append log (u ∷ [])))
-
 pub stored_good : (limits : Limits) → (s : State) (states : States) → Stored limits s states → AreSound (line s) → IsGood limits states
-stored_good limits s states stored sound image is = by s.log s.doubt stored.files sound (stored_gives limits s states stored image is)
-  where
-    by : (log : List Entry) (doubt : Option Entry) → FilesHave log doubt states → AreSound (with_doubt log doubt) → Gives limits (record { log = log; doubt = doubt; pins = [] }) image → (l : List Entry) × (recover limits image ≡ Ok l) × KeepsFiles l states × AreSound l
-    by log None files sound (inl r) = (log, r, keeps log states files.each, sound)
-    by log None files sound (inr r) = (log, r, keeps log states files.each, sound)
-    by log (Some u) files sound (inl r) = (log, r, keeps_front log u states (keeps (log ++ u ∷ []) states (subst (λ (e : List (List ℕ)). KeepsEntries e states) (sym (map_last log u)) files.each)), log_sound log (Some u) sound)
-    by log (Some u) files sound (inr r) = (log ++ u ∷ [], r, keeps (log ++ u ∷ []) states (subst (λ (e : List (List ℕ)). KeepsEntries e states) (sym (map_last log u)) files.each), sound)
+stored_good limits s states stored sound image is =
+    ⊎_elim (λ out. (s.log, out.0, out.1, log_sound s.log s.doubt sound)) (λ in_. (line s, in_.0, in_.1, sound)) (stored_gives limits s states stored image is)
+
+-- at each moment of a run the disk may be handed in
+run_good : (limits : Limits) (start : State) (begin : ℕ) (at : ℕ → States) (history : List Happening) → Run limits start begin at history → (m : ℕ) → begin ≤ m → m ≤ last_tick begin history → IsGood limits (at m)
+run_good limits start begin at history run m ge le image is = let g = safe limits start begin at history run m ge le image is in (g.0, g.1, g.3, g.2.sound)
+
+run_crash : (limits : Limits) (start : State) (begin : ℕ) (at : ℕ → States) (history : List Happening) → Run limits start begin at history → (m : ℕ) → begin ≤ m → m ≤ last_tick begin history → CrashAt limits start begin at history m
+run_crash limits start begin at history run m ge le image is = let g = safe limits start begin at history run m ge le image is in (g.0, g.1, g.2)
 
 pub holds_now : (limits : Limits) (start : State) (begin : ℕ) (history : List Happening) (v : View) (s : State) (trail : List Turn) → IsRun limits start begin history v s trail → Holds limits start begin history v
 holds_now limits start begin history v s trail run = record {
   run = run.run;
-  crash = λ m ge le image is. safe limits start begin v.at history run.run m ge (omega (arith, le, run.clock)) image is;
+  crash = λ m ge le. run_crash limits start begin v.at history run.run m ge (omega (arith, le, run.clock));
+  good = λ m ge le. run_good limits start begin v.at history run.run m ge (omega (arith, le, run.clock));
   ends = subst (λ (x : State). GivesThis limits x (now v)) (sym run.leads) (stored_gives limits s (now v) run.stored);
 }
 
--- time went on, and no stop can leave anything new
-pub holds_later : (limits : Limits) (start : State) (begin : ℕ) (history : List Happening) (v w : View) (s : State) (trail : List Turn) → IsRun limits start begin history v s trail → Narrows v w → Holds limits start begin history w
-holds_later limits start begin history v w s trail run narrows =
+-- ---- moments at which no stop can leave anything new, and the disk may still be handed in
+
+apart : (a b : ℕ) → a ≡ 4 → b ≡ 1 → a ≢ b
+apart a b four one is = omega arith
+
+entry_not_gate : (n : ℕ) → entry_file n ≢ gate_file
+entry_not_gate n is = apart 4 1 refl refl (ap (λ (f : FileId). f.kind) is)
+
+-- where the gate alone differs, and leaves no more
+pub good_beside : (limits : Limits) (v w : View) → Runs gate_file AnyState v w → Narrows v w → IsGood limits (now v) → Since (IsGood limits) v w
+good_beside limits v w gate narrows good = record {
+  later = narrows.later;
+  past = narrows.past;
+  each = λ m lt le image is.
+      let g = good image (narrows.each m lt le image is) in
+      (g.0, g.1, (λ k in_log. let at = g.2 k in_log in (at.0, gate.others m lt le (entry_file (k + 1)) (entry_not_gate (k + 1)) ∙ at.1)), g.3);
+}
+
+pub good_quiet : (limits : Limits) (u v w : View) → Runs gate_file AnyState u v → Narrows u v → Quiet v w → IsGood limits (now u) → Since (IsGood limits) u w
+good_quiet limits u v w gate narrows quiet good = since_quiet (IsGood limits) u v w (good_beside limits u v gate narrows good) quiet
+
+-- at the end of such a time
+pub good_end : (limits : Limits) (v w : View) → IsGood limits (now v) → Since (IsGood limits) v w → IsGood limits (now w)
+good_end limits v w good since = elim (cases_lt v.clock w.clock) [
+  | inl lt ↦ since.each w.clock lt (omega arith)
+  | inr ge ↦
+      let same : w.clock ≡ v.clock = omega (arith, ge, since.later) in
+      subst (λ (s : States). IsGood limits s) (sym (ap (λ (k : ℕ). w.at k) same ∙ since.past v.clock (omega arith))) good
+]
+
+-- what a state gave before, it gives at each of them
+gives_later : (limits : Limits) (s : State) (v w : View) → GivesThis limits s (now v) → Narrows v w → Since (IsGood limits) v w → (m : ℕ) → v.clock < m → m ≤ w.clock → GivesThis limits s (w.at m)
+gives_later limits s v w gives narrows good m lt le image is =
+    let g = good.each m lt le image is in
+    let keeps : (log : List Entry) → recover limits image ≡ Ok log → GivesLog limits log (w.at m) image = λ log recovers.
+    let ok : Ok g.0 ≡ Ok log = sym g.1 ∙ recovers in
+    let same : g.0 ≡ log = cc ok in
+    (recovers, subst (λ (l : List Entry). KeepsFiles l (w.at m)) same g.2) in
+    ⊎_elim (λ out. inl (keeps s.log out.0)) (λ in_. inr (keeps (line s) in_.0)) (gives image (narrows.each m lt le image is))
+
+-- at the end too
+gives_end : (limits : Limits) (s : State) (v w : View) → GivesThis limits s (now v) → Narrows v w → Since (IsGood limits) v w → GivesThis limits s (now w)
+gives_end limits s v w gives narrows good = elim (cases_lt v.clock w.clock) [
+  | inl lt ↦ gives_later limits s v w gives narrows good w.clock lt (omega arith)
+  | inr ge ↦
+      let same : w.clock ≡ v.clock = omega (arith, ge, narrows.later) in
+      subst (λ (x : States). GivesThis limits s x) (sym (ap (λ (k : ℕ). w.at k) same ∙ narrows.past v.clock (omega arith))) gives
+]
+
+-- so what has happened still holds
+pub holds_later : (limits : Limits) (start : State) (begin : ℕ) (history : List Happening) (v w : View) (s : State) (trail : List Turn) → IsRun limits start begin history v s trail → Narrows v w → Since (IsGood limits) v w → Holds limits start begin history w
+holds_later limits start begin history v w s trail run narrows good =
     let u_is : last_tick begin history ≡ v.clock = run.clock in
     let before = holds_now limits start begin history v s trail run in
     let gives : GivesThis limits (last_state start history) (now v) = before.ends in
-    let old_image : (m : ℕ) → v.clock ≤ m → m ≤ w.clock → (image : Files) → IsImage (w.at m) image → IsImage (now v) image = λ m ge le image is. ⊎_elim
-    (λ lt. narrows.each m lt le image is)
-    (λ not. let same : m ≡ v.clock = omega (arith, not, ge) in subst (λ (x : States). IsImage x image) (ap (λ (k : ℕ). w.at k) same ∙ narrows.past v.clock (omega arith)) is)
-    (cases_lt v.clock m) in
+    let past : Run limits start begin w.at history = run_past limits start begin v.at w.at history (λ k le. narrows.past k (omega (arith, le, u_is))) run.run in
     record {
-      run = run_past limits start begin v.at w.at history (λ k le. narrows.past k (omega (arith, le, u_is))) run.run;
-      crash = λ m ge le image is. ⊎_elim
-          (λ lt. safe_after limits start begin v.at history run.run m (omega (arith, lt, u_is)) image (gives image (narrows.each m lt le image is)))
-          (λ not. before.crash m ge (omega (arith, not)) image (subst (λ (x : States). IsImage x image) (narrows.past m (omega (arith, not))) is))
-          (cases_lt v.clock m);
-      ends = λ image is. gives image (old_image w.clock narrows.later (omega arith) image is);
+      run = past;
+      crash = λ m ge le. elim (cases_lt v.clock m) [
+        | inl lt ↦ (λ image is.
+            let g = safe_after limits start begin w.at history past m (omega (arith, lt, u_is)) (w.at m) image (gives_later limits (last_state start history) v w gives narrows good m lt le image is) in
+            (g.0, g.1, g.2))
+        | inr not ↦ run_crash limits start begin w.at history past m ge (omega (arith, not, u_is))
+      ];
+      good = λ m ge le. elim (cases_lt v.clock m) [
+        | inl lt ↦ good.each m lt le
+        | inr not ↦ run_good limits start begin w.at history past m ge (omega (arith, not, u_is))
+      ];
+      ends = gives_end limits (last_state start history) v w gives narrows good;
     }
 
 pub continues : {D : Type 0} (view : D → View) (start : State) (begin : ℕ) (history : List Happening) (P : List Happening → Type 0) (later : List Happening) (old p : Shown D) → p.limits ≡ old.limits → P later → KeepsPast (view old.disk) (view p.disk) → HasRun view start begin (later ++ history) p → Continues view start begin history P old p
 continues view start begin history P later old p limits this past run = record { later = later; past = past; limits = limits; this = this; run = run; holds = subst (λ (l : Limits). Holds l start begin (later ++ history) (view p.disk)) limits (holds_now p.limits start begin (later ++ history) (view p.disk) p.state p.trail run); good = subst (λ (l : Limits). IsGood l (now (view p.disk))) limits (stored_good p.limits p.state (now (view p.disk)) run.stored (state_sound p.limits start begin (later ++ history) (view p.disk) p.state p.trail run)) }
+
+-- ---- disks that may be handed in
+
+-- what a stop has left is the one image of itself
+one_image : (files image : Files) → IsImage (λ file. still (files file)) image → image ≡ files
+one_image files image is = λ i file. is file i
+
+pub stop_good : (limits : Limits) (states : States) (files : Files) → IsGood limits states → IsImage states files → IsGood limits (λ file. still (files file))
+stop_good limits states files good left image is =
+    let g = good files left in
+    (g.0, ap (λ (x : Files). recover limits x) (one_image files image is) ∙ g.1, (λ k in_log. (files (entry_file (k + 1)), refl)), g.3)
+
+pub empty_good : (limits : Limits) → IsGood limits (λ file. still None)
+empty_good limits image is =
+    let fits : nat_lt limits.positions 0 ≡ false = grind (arith, nat_tests) in
+    let none : recover limits (λ file. None) ≡ Ok [] = ap (λ (b : Bool). cond b (Err (gate_file, limits.positions)) (Ok [])) fits in
+    ([], ap (λ (x : Files). recover limits x) (one_image (λ file. None) image is) ∙ none, (λ k in_log. absurd (omega (arith, in_log))), empty_sound)
 
 -- ---- openings
 
@@ -147,13 +216,13 @@ first_opened limits x log stored sound = record { stored = stored; run = (stored
 
 pub settled_by : (limits : Limits) → (s : State) (v : View) (log : List Entry) → Stored limits s (now v) → IsImage (now v) v.reads → recover limits v.reads ≡ Ok log → Settles s (sure log)
 settled_by limits s v log stored shows is = ⊎_elim
-    (λ r. let ok : Ok log ≡ Ok s.log = sym is ∙ r in let same : log ≡ s.log = cc ok in inl (ap sure same))
-    (λ r. let ok : Ok log ≡ Ok (line s) = sym is ∙ r in let same : log ≡ line s = cc ok in inr (ap sure same))
+    (λ r. let ok : Ok log ≡ Ok s.log = sym is ∙ r.0 in let same : log ≡ s.log = cc ok in inl (ap sure same))
+    (λ r. let ok : Ok log ≡ Ok (line s) = sym is ∙ r.0 in let same : log ≡ line s = cc ok in inr (ap sure same))
     (stored_gives limits s (now v) stored v.reads shows)
 
 pub opened_more : (limits : Limits) → (start : State) (begin : ℕ) (history : List Happening) (v w : View) (s new : State) (trail : List Turn) → IsRun limits start begin history v s trail
-    → Settles s new → Narrows v w → Stored limits new (now w) → IsRun limits start begin (opened w.clock new ∷ history) w new []
-opened_more limits start begin history v w s new trail run settles narrows stored =
+    → Settles s new → Narrows v w → Since (IsGood limits) v w → Stored limits new (now w) → IsRun limits start begin (opened w.clock new ∷ history) w new []
+opened_more limits start begin history v w s new trail run settles narrows good stored =
     let u_is : last_tick begin history ≡ v.clock = run.clock in
     record {
       stored = stored;
@@ -162,7 +231,7 @@ opened_more limits start begin history v w s new trail run settles narrows store
         subst (λ (x : State). Settles x new) (sym run.leads) settles,
         record {
           later = omega (arith, u_is, narrows.later);
-          during = λ k lt le. subst (λ (x : State). GivesEither limits x new (w.at k)) (sym run.leads) (λ image is. inl (stored_gives limits s (now v) run.stored image (narrows.each k (omega (arith, lt, u_is)) le image is)));
+          during = λ k lt le. subst (λ (x : State). GivesEither limits x new (w.at k)) (sym run.leads) (λ image is. inl (gives_later limits s v w (stored_gives limits s (now v) run.stored) narrows good k (omega (arith, lt, u_is)) le image is));
           end = stored_gives limits new (now w) stored;
           sound = opening_sound s new settles (state_sound limits start begin history v s trail run);
         },
@@ -176,29 +245,31 @@ pub trail_same : (limits : Limits) → (start : State) (begin : ℕ) (history : 
 trail_same limits start begin history v s t trail new same is run = subst (λ (x : State). IsRun limits start begin history v x new) (sym same) (subst (λ (l : List Turn). IsRun limits start begin history v s l) (sym is) run)
 
 module _ {D : Type 0} (view : D → View) (start : State) (begin : ℕ) (history : List Happening) (old : Shown D) (disk : D) (same : disk ≡ old.disk) (shows : IsImage (now (view old.disk)) (view old.disk).reads) (run : HasRun view start begin history old) where
-  reopened : (p : Shown D) → p.limits ≡ old.limits → Mounts (recover old.limits (view disk).reads) (Ok p) → p.trail ≡ [] → Narrows (view disk) (view p.disk) → (IsGood old.limits (now (view disk)) → HasRun view p.state (view p.disk).clock [] p)
+  reopened : (p : Shown D) → p.limits ≡ old.limits → Mounts (recover old.limits (view disk).reads) (Ok p) → p.trail ≡ [] → Narrows (view disk) (view p.disk)
+      → (IsGood old.limits (now (view disk)) → Since (IsGood old.limits) (view disk) (view p.disk)) → (IsGood old.limits (now (view disk)) → HasRun view p.state (view p.disk).clock [] p)
       → Settles old.state p.state × Continues view start begin history (OneOpening (view p.disk).clock p.state) old p
-  reopened p limits mounts empty narrows good =
+  reopened p limits mounts empty narrows moments good =
       let v = view old.disk in
       let is : recover old.limits v.reads ≡ Ok mounts.0 = ap (λ (d : D). recover old.limits (view d).reads) (sym same) ∙ mounts.1 in
       let settles : Settles old.state p.state = subst (λ (s : State). Settles old.state s) (sym mounts.2) (settled_by old.limits old.state v mounts.0 run.stored shows is) in
       let here : IsGood old.limits (now (view disk)) = subst (λ (d : D). IsGood old.limits (now (view d))) (sym same) (stored_good old.limits old.state (now v) run.stored (state_sound old.limits start begin history v old.state old.trail run)) in
       let narrowed : Narrows v (view p.disk) = subst (λ (d : D). Narrows (view d) (view p.disk)) same narrows in
+      let since : Since (IsGood old.limits) v (view p.disk) = subst (λ (d : D). Since (IsGood old.limits) (view d) (view p.disk)) same (moments here) in
       let stored : Stored old.limits p.state (now (view p.disk)) = subst (λ (l : Limits). Stored l p.state (now (view p.disk))) limits (good here).stored in
-      let more = opened_more old.limits start begin history v (view p.disk) old.state p.state old.trail run settles narrowed stored in
+      let more = opened_more old.limits start begin history v (view p.disk) old.state p.state old.trail run settles narrowed since stored in
       let whole = trail_same old.limits start begin (opened (view p.disk).clock p.state ∷ history) (view p.disk) p.state p.state [] p.trail refl empty more in
       (settles, continues view start begin history (OneOpening (view p.disk).clock p.state) (opened (view p.disk).clock p.state ∷ []) old p limits refl (past_since _ v (view p.disk) narrowed) (subst (λ (l : Limits). IsRun l start begin (opened (view p.disk).clock p.state ∷ history) (view p.disk) p.state p.trail) (sym limits) whole))
 
   pub restarted : (result : Result (Shown D) (MountError D)) → IfOk result (λ p. p.limits ≡ old.limits) → Mounts (recover old.limits (view disk).reads) result → IfOk result (λ p. p.trail ≡ []) → IfOk result (λ p. Narrows (view disk) (view p.disk))
-      → (IsGood old.limits (now (view disk)) → IfOk result (λ p. HasRun view p.state (view p.disk).clock [] p))
+      → (IsGood old.limits (now (view disk)) → IfOk result (λ p. Since (IsGood old.limits) (view disk) (view p.disk))) → (IsGood old.limits (now (view disk)) → IfOk result (λ p. HasRun view p.state (view p.disk).clock [] p))
       → IfOk result (λ p. Settles old.state p.state) × IfOk result (λ p. Continues view start begin history (OneOpening (view p.disk).clock p.state) old p)
-  restarted (Err e) limits mounts empty narrows good = (tt, tt)
-  restarted (Ok p) limits mounts empty narrows good = reopened p limits mounts empty narrows good
+  restarted (Err e) limits mounts empty narrows moments good = (tt, tt)
+  restarted (Ok p) limits mounts empty narrows moments good = reopened p limits mounts empty narrows moments good
 
   abbrev Reopens : Limits → ℕ → Type 0
   Reopens limits number =
       (result : Result (Shown D) (MountError D)) → IfOk result (λ p. (p.number ≡ number) × (p.limits ≡ limits)) → Mounts (recover limits (view disk).reads) result → IfOk result (λ p. p.trail ≡ []) → IfOk result (λ p. Narrows (view disk) (view p.disk))
-      → (IsGood limits (now (view disk)) → IfOk result (λ p. HasRun view p.state (view p.disk).clock [] p))
+      → (IsGood limits (now (view disk)) → IfOk result (λ p. Since (IsGood limits) (view disk) (view p.disk))) → (IsGood limits (now (view disk)) → IfOk result (λ p. HasRun view p.state (view p.disk).clock [] p))
       → IfOk result (λ p. Settles old.state p.state) × IfOk result (λ p. Continues view start begin history (OneOpening (view p.disk).clock p.state) old p)
 
   kept_limits : (limits : Limits) (number : ℕ) (result : Result (Shown D) (MountError D)) → IfOk result (λ p. (p.number ≡ number) × (p.limits ≡ limits)) → IfOk result (λ p. p.limits ≡ limits)
@@ -206,12 +277,16 @@ module _ {D : Type 0} (view : D → View) (start : State) (begin : ℕ) (history
   kept_limits limits number (Ok p) kept = kept.1
 
   pub restarted_by : (limits : Limits) (number : ℕ) → limits ≡ old.limits → Reopens limits number
-  restarted_by limits number is = subst (λ (l : Limits). Reopens l number) (sym is) (λ result kept mounts empty narrows good. restarted result (kept_limits old.limits number result kept) mounts empty narrows good)
+  restarted_by limits number is = subst (λ (l : Limits). Reopens l number) (sym is) (λ result kept mounts empty narrows moments good. restarted result (kept_limits old.limits number result kept) mounts empty narrows moments good)
 
 pub reopened_in_vain : {D : Type 0} (view : D → View) (start : State) (begin : ℕ) (history : List Happening) (old : Shown D) → HasRun view start begin history old → (result : Result (Shown D) (MountError D))
-    → IfErr result (λ e. Narrows (view old.disk) (view e.disk)) → IfErr result (λ e. Holds old.limits start begin history (view e.disk))
-reopened_in_vain view start begin history old run (Ok p) narrows = tt
-reopened_in_vain view start begin history old run (Err e) narrows = holds_later old.limits start begin history (view old.disk) (view e.disk) old.state old.trail run narrows
+    → IfErr result (λ e. Narrows (view old.disk) (view e.disk)) → (IsGood old.limits (now (view old.disk)) → IfErr result (λ e. Since (IsGood old.limits) (view old.disk) (view e.disk)))
+    → IfErr result (λ e. Holds old.limits start begin history (view e.disk))
+reopened_in_vain view start begin history old run (Ok p) narrows moments = tt
+reopened_in_vain view start begin history old run (Err e) narrows moments =
+    let v = view old.disk in
+    let good : IsGood old.limits (now v) = stored_good old.limits old.state (now v) run.stored (state_sound old.limits start begin history v old.state old.trail run) in
+    holds_later old.limits start begin history v (view e.disk) old.state old.trail run narrows (moments good)
 
 -- Two parts of a history, one after the other, where the second is about the history that the first has made.
 pub continues_on : {D : Type 0} (view : D → View) (start : State) (begin : ℕ) (history : List Happening) (P Q R : List Happening → Type 0) (o p q : Shown D) → (c : Continues view start begin history P o p)

@@ -7,8 +7,8 @@ use Rattle.gt_entry.specs.Reading.{entry_of}
 use Rattle.gt_model.specs.declared.change.Change.{Change}
 use Rattle.gt_model.specs.declared.change.Change.TheVariants.{Create, Delete, Link, Write, Repack, Prune, PackRefs, Unlink}
 use Rattle.gt_disk.specs.Files.{Content as FileContent, Files, States, IsImage}
-use Rattle.gt_log.specs.Log.{gate_file, entry_file, content_length, Recovers, Stands, Doubts, Adding}
-use Rattle.gt_log.proofs.Images.{stands_recovers, doubts_recovers, adding_recovers}
+use Rattle.gt_log.specs.Log.{gate_file, entry_file, content_length, Recovers, KeepsEntries, Stands, Doubts, Adding}
+use Rattle.gt_log.proofs.Images.{stands_recovers, doubts_recovers}
 use Rattle.gt_model.specs.declared.entry.Entry.{Entry}
 use Rattle.gt_model.specs.declared.limits.Limits.{Limits}
 use Rattle.gt_model.specs.Contents.{Content, nothing, after, fits, IsLegal}
@@ -16,7 +16,8 @@ use Rattle.gt_model.specs.Machine.{content}
 use Rattle.gt_model.proofs.Logs.{legal_front, legal_append}
 use Rattle.gt_part.specs.Spelling.{encode, IsSpelled, AreSpelled, exactly, placed, decode}
 use Rattle.gt_table.specs.Built.{is_built, IsBuilt}
-use Rattle.gt_part.specs.Recovery.{Damage, fitting, entry_in, and_more, read_log, recover, IsKept}
+use Rattle.gt_part.specs.Recovery.{Damage, fitting, entry_in, and_more, read_log, recover, IsKept, KeepsFiles}
+use Rattle.gt_part.specs.Stored.{GivesLog}
 use Rattle.gt_part.proofs.Bytes.{pointwise-refl, pointwise-true}
 
 bytes_same : (xs : List ℕ) → bytes_eq xs xs ≡ true
@@ -175,19 +176,37 @@ kept_push log e kept at good fit = (legal_append nothing 1 log e kept.0 (omega (
 pub map_last : (log : List Entry) (u : Entry) → map encode (log ++ u ∷ []) ≡ map encode log ++ encode u ∷ []
 map_last log u = map-append encode log (u ∷ [])
 
+pub keeps : (log : List Entry) (states : States) → KeepsEntries (map encode log) states → KeepsFiles log states
+keeps log states each k lt = (_, each k (omega (arith, lt, length-map log encode)))
+
+keeps_front : (log : List Entry) (u : Entry) (states : States) → KeepsFiles (log ++ u ∷ []) states → KeepsFiles log states
+keeps_front log u states each k lt = each k (omega (arith, lt, length-append log (u ∷ [])))
+
+-- the same log by another name
+pub gives_as : (limits : Limits) (log other : List Entry) (states : States) (image : Files) → log ≡ other → GivesLog limits log states image → GivesLog limits other states image
+gives_as limits log other states image same gives = subst (λ (l : List Entry). GivesLog limits l states image) same gives
+
 module _ (limits : Limits) where
-  pub stands_image : (log : List Entry) (states : States) → Stands (map encode log) states → IsKept log → length log ≤ limits.positions → (image : Files) → IsImage states image → recover limits image ≡ Ok log
-  stands_image log states stands legal within image is = recover_is limits image log (stands_recovers (map encode log) states stands image is) legal within
+  pub stands_image : (log : List Entry) (states : States) → Stands (map encode log) states → IsKept log → length log ≤ limits.positions → (image : Files) → IsImage states image → GivesLog limits log states image
+  stands_image log states stands legal within image is = (recover_is limits image log (stands_recovers (map encode log) states stands image is) legal within, keeps log states stands.each)
 
   -- the log with one entry more, or without it
   module _ (log : List Entry) (u : Entry) (legal : IsKept log) (more : IsKept (log ++ u ∷ [])) (within : length (log ++ u ∷ []) ≤ limits.positions) (image : Files) where
-    in_or_out : Recovers image (map encode log) ⊎ Recovers image (map encode log ++ encode u ∷ []) → (recover limits image ≡ Ok log) ⊎ (recover limits image ≡ Ok (log ++ u ∷ []))
-    in_or_out = ⊎_elim
-        (λ out. inl (recover_is limits image log out legal (omega (arith, within, length-append log (u ∷ [])))))
-        (λ in_. inr (recover_is limits image (log ++ u ∷ []) (subst (λ (e : List (List ℕ)). Recovers image e) (sym (map_last log u)) in_) more within))
+    abbrev OutOrIn : States → Type 0
+    OutOrIn states = GivesLog limits log states image ⊎ GivesLog limits (log ++ u ∷ []) states image
 
-    pub doubts_image : (states : States) → Doubts (map encode log) (encode u) states → IsImage states image → (recover limits image ≡ Ok log) ⊎ (recover limits image ≡ Ok (log ++ u ∷ []))
-    doubts_image states doubts is = in_or_out (doubts_recovers (map encode log) (encode u) states doubts image is)
+    shorter : length log ≤ limits.positions
+    shorter = omega (arith, within, length-append log (u ∷ []))
 
-    pub adding_image : (before states : States) → Adding (map encode log) (encode u) before states → IsImage states image → (recover limits image ≡ Ok log) ⊎ (recover limits image ≡ Ok (log ++ u ∷ []))
-    adding_image before states adding is = in_or_out (adding_recovers (map encode log) (encode u) before states adding image is)
+    out_or_in : (states : States) → KeepsFiles (log ++ u ∷ []) states → Recovers image (map encode log) ⊎ Recovers image (map encode log ++ encode u ∷ []) → OutOrIn states
+    out_or_in states kept = ⊎_elim
+        (λ out. inl (recover_is limits image log out legal shorter, keeps_front log u states kept))
+        (λ in_. inr (recover_is limits image (log ++ u ∷ []) (subst (λ (e : List (List ℕ)). Recovers image e) (sym (map_last log u)) in_) more within, kept))
+
+    pub doubts_image : (states : States) → Doubts (map encode log) (encode u) states → IsImage states image → OutOrIn states
+    doubts_image states doubts is =
+        let kept : KeepsFiles (log ++ u ∷ []) states = keeps (log ++ u ∷ []) states (subst (λ (e : List (List ℕ)). KeepsEntries e states) (sym (map_last log u)) doubts.each) in
+        out_or_in states kept (doubts_recovers (map encode log) (encode u) states doubts image is)
+
+    pub adding_image : (before states : States) → Adding (map encode log) (encode u) before states → IsImage states image → OutOrIn states
+    adding_image before states adding is = ⊎_elim (λ stands. inl (stands_image log states stands legal shorter image is)) (λ doubts. doubts_image states doubts is) adding.log

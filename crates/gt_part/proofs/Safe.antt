@@ -8,7 +8,7 @@ use Rattle.gt_model.specs.declared.entry.Entry.{Entry}
 use Rattle.gt_model.specs.declared.limits.Limits.{Limits}
 use Rattle.gt_model.specs.Machine.{State, with_doubt, line}
 use Rattle.gt_model.specs.Histories.{Happening, tick, state, acks, last_tick, last_state, acked, around, IsRun}
-use Rattle.gt_part.specs.Recovery.{recover}
+use Rattle.gt_part.specs.Recovery.{recover, KeepsFiles}
 use Rattle.gt_part.specs.Stored.{Gives, GivesThis, GivesEither}
 use Rattle.gt_part.specs.Crash.{Run, IsSafe}
 use Rattle.gt_sound.specs.Sound.{AreSound}
@@ -48,32 +48,34 @@ module _ (limits : Limits) where
   take_with log None = sym (take_all (length log) log (omega arith))
   take_with log (Some u) = sym (take-append-le (length log) log (u ∷ []) (omega arith) ∙ take_all (length log) log (omega arith))
 
-  -- what a state gives: a log that is at least as long as its own, and a front of its line
-  record Given (s : State) (image : Files) : Type 0 where
+  -- what a state gives: a log that is at least as long as its own, and a front of its line, by files that are still
+  record Given (s : State) (states : States) (image : Files) : Type 0 where
     pub log : List Entry
     pub recovers : recover limits image ≡ Ok log
+    pub keeps : KeepsFiles log states
     pub long : size s ≤ length log
     pub front : log ≡ take (length log) (line s)
 
-  given : (s : State) (image : Files) → Gives limits s image → Given s image
-  given s image (inl r) = record { log = s.log; recovers = r; long = omega arith; front = take_with s.log s.doubt }
-  given s image (inr r) = record { log = line s; recovers = r; long = len_line s.log s.doubt; front = sym (take_all (length (line s)) (line s) (omega arith)) }
+  given : (s : State) (states : States) (image : Files) → Gives limits s states image → Given s states image
+  given s states image (inl r) = record { log = s.log; recovers = r.0; keeps = r.1; long = omega arith; front = take_with s.log s.doubt }
+  given s states image (inr r) = record { log = line s; recovers = r.0; keeps = r.1; long = len_line s.log s.doubt; front = sym (take_all (length (line s)) (line s) (omega arith)) }
 
-  abbrev Safely : ℕ → State × State → Files → Type 0
-  Safely n both image = (log : List Entry) × (recover limits image ≡ Ok log) × IsSafe n both.0 both.1 log
+  -- what an image recovers to is safe, and its files are still
+  abbrev pub Safely : ℕ → State × State → States → Files → Type 0
+  Safely n both states image = (log : List Entry) × (recover limits image ≡ Ok log) × IsSafe n both.0 both.1 log × KeepsFiles log states
 
   safely : (n : ℕ) (old new : State) (image : Files) (log : List Entry) → recover limits image ≡ Ok log → n ≤ length log → (log ≡ take (length log) (line old)) ⊎ (log ≡ take (length log) (line new)) → AreSound log → IsSafe n old new log
   safely n old new image log is le front sound = record { all = le; front = front; legal = (recovered limits image log is).legal.0; sound = sound }
 
-  from_old : (n : ℕ) (old new : State) (image : Files) → n ≤ size old → AreSound (line old) → Gives limits old image → Safely n (old, new) image
-  from_old n old new image le sound gives =
-      let g = given old image gives in
-      (g.log, g.recovers, safely n old new image g.log g.recovers (omega (arith, le, g.long)) (inl g.front) (part_sound (length g.log) (line old) g.log sound g.front))
+  from_old : (n : ℕ) (old new : State) (states : States) (image : Files) → n ≤ size old → AreSound (line old) → Gives limits old states image → Safely n (old, new) states image
+  from_old n old new states image le sound gives =
+      let g = given old states image gives in
+      (g.log, g.recovers, safely n old new image g.log g.recovers (omega (arith, le, g.long)) (inl g.front) (part_sound (length g.log) (line old) g.log sound g.front), g.keeps)
 
-  from_new : (n : ℕ) (old new : State) (image : Files) → n ≤ size new → AreSound (line new) → Gives limits new image → Safely n (old, new) image
-  from_new n old new image le sound gives =
-      let g = given new image gives in
-      (g.log, g.recovers, safely n old new image g.log g.recovers (omega (arith, le, g.long)) (inr g.front) (part_sound (length g.log) (line new) g.log sound g.front))
+  from_new : (n : ℕ) (old new : State) (states : States) (image : Files) → n ≤ size new → AreSound (line new) → Gives limits new states image → Safely n (old, new) states image
+  from_new n old new states image le sound gives =
+      let g = given new states image gives in
+      (g.log, g.recovers, safely n old new image g.log g.recovers (omega (arith, le, g.long)) (inr g.front) (part_sound (length g.log) (line new) g.log sound g.front), g.keeps)
 
   lt_true : (m n : ℕ) → m < n → nat_lt m n ≡ true
   lt_true m n lt = grind (arith, nat_tests)
@@ -82,18 +84,22 @@ module _ (limits : Limits) where
   lt_false m n le = grind (arith, nat_tests)
 
   -- a happening that took no time
-  raised : (a n : ℕ) (both : State × State) (new : State) (image : Files) → Safely a both image → n ≤ size new → Gives limits new image → Safely n both image
-  raised a n both new image (log, recovers, is_safe) le gives =
-      let g = given new image gives in
+  raised : (a n : ℕ) (both : State × State) (new : State) (states : States) (image : Files) → Safely a both states image → n ≤ size new → Gives limits new states image → Safely n both states image
+  raised a n both new states image (log, recovers, is_safe, keeps) le gives =
+      let g = given new states image gives in
       let ok : Ok log ≡ Ok g.log = sym recovers ∙ g.recovers in
       let same : log ≡ g.log = cc ok in
-      (log, recovers, record { all = omega (arith, le, g.long, ap (λ (l : List Entry). length l) same); front = is_safe.front; legal = is_safe.legal; sound = is_safe.sound })
+      (log, recovers, record { all = omega (arith, le, g.long, ap (λ (l : List Entry). length l) same); front = is_safe.front; legal = is_safe.legal; sound = is_safe.sound }, keeps)
+
+  -- what a state gives at one moment it gives at the same moment
+  gives_at : (s : State) (at : ℕ → States) (m n : ℕ) → m ≡ n → GivesThis limits s (at n) → GivesThis limits s (at m)
+  gives_at s at m n same gives = subst (λ (k : ℕ). GivesThis limits s (at k)) (sym same) gives
 
   pub safe : (start : State) (begin : ℕ) (at : ℕ → States) (history : List Happening) → Run limits start begin at history → (m : ℕ) → begin ≤ m → m ≤ last_tick begin history
-      → (image : Files) → IsImage (at m) image → Safely (acked start history m) (around start begin history m) image
+      → (image : Files) → IsImage (at m) image → Safely (acked start history m) (around start begin history m) (at m) image
   safe start begin at [] run m ge le image is =
       let here : m ≡ begin = omega (arith, ge, le) in
-      from_old (size start) start start image (omega arith) run.2 (run.0 image (subst (λ (k : ℕ). IsImage (at k) image) here is))
+      from_old (size start) start start (at m) image (omega arith) run.2 (gives_at start at m begin here run.0 image is)
   safe start begin at (h ∷ older) run m ge le image is =
       let u = last_tick begin older in
       let old = last_state start older in
@@ -105,16 +111,16 @@ module _ (limits : Limits) where
             let both : around start begin (h ∷ older) m ≡ (old, state h) =
             ap (λ (b : Bool). cond b (state h, state h) (cond (nat_lt u m) (old, state h) (around start begin older m))) not_after
             ∙ ap (λ (b : Bool). cond b (old, state h) (around start begin older m)) (lt_true u m later) in
-            subst (λ (p : State × State). Safely (acked start (h ∷ older) m) p image) (sym both) (elim (cases_lt m (tick h)) [
+            subst (λ (p : State × State). Safely (acked start (h ∷ older) m) p (at m) image) (sym both) (elim (cases_lt m (tick h)) [
               | inl early ↦
                   let same : acked start (h ∷ older) m ≡ acked start older m = ap (λ (b : Bool). max (cond b 0 (acks h)) (acked start older m)) (lt_true m (tick h) early) ∙ (let e : max 0 (acked start older m) ≡ acked start older m = omega arith in e) in
                   ⊎_elim
-                  (λ gives. from_old (acked start (h ∷ older) m) old (state h) image (omega (arith, same, low)) (run_sound start begin at older run.0) gives)
-                  (λ gives. from_new (acked start (h ∷ older) m) old (state h) image top run.2.sound gives)
+                  (λ gives. from_old (acked start (h ∷ older) m) old (state h) (at m) image (omega (arith, same, low)) (run_sound start begin at older run.0) gives)
+                  (λ gives. from_new (acked start (h ∷ older) m) old (state h) (at m) image top run.2.sound gives)
                   (run.2.during m later le image is)
               | inr late ↦
                   let here : m ≡ tick h = omega (arith, late, le) in
-                  from_new (acked start (h ∷ older) m) old (state h) image top run.2.sound (run.2.end image (subst (λ (k : ℕ). IsImage (at k) image) here is))
+                  from_new (acked start (h ∷ older) m) old (state h) (at m) image top run.2.sound (gives_at (state h) at m (tick h) here run.2.end image is)
             ])
         | inr earlier ↦
             let both : around start begin (h ∷ older) m ≡ around start begin older m =
@@ -123,13 +129,13 @@ module _ (limits : Limits) where
             elim (cases_lt m (tick h)) [
               | inl early ↦
                   let same : acked start (h ∷ older) m ≡ acked start older m = ap (λ (b : Bool). max (cond b 0 (acks h)) (acked start older m)) (lt_true m (tick h) early) ∙ (let e : max 0 (acked start older m) ≡ acked start older m = omega arith in e) in
-                  subst (λ (p : State × State). Safely (acked start (h ∷ older) m) p image) (sym both)
-                  (subst (λ (n : ℕ). Safely n (around start begin older m) image) (sym same) (safe start begin at older run.0 m ge earlier image is))
+                  subst (λ (p : State × State). Safely (acked start (h ∷ older) m) p (at m) image) (sym both)
+                  (subst (λ (n : ℕ). Safely n (around start begin older m) (at m) image) (sym same) (safe start begin at older run.0 m ge earlier image is))
               | inr late ↦
                   let here : m ≡ tick h = omega (arith, late, le) in
-                  subst (λ (p : State × State). Safely (acked start (h ∷ older) m) p image) (sym both)
-                  (raised (acked start older m) (acked start (h ∷ older) m) (around start begin older m) (state h) image (safe start begin at older run.0 m ge earlier image is) top
-                  (run.2.end image (subst (λ (k : ℕ). IsImage (at k) image) here is)))
+                  subst (λ (p : State × State). Safely (acked start (h ∷ older) m) p (at m) image) (sym both)
+                  (raised (acked start older m) (acked start (h ∷ older) m) (around start begin older m) (state h) (at m) image (safe start begin at older run.0 m ge earlier image is) top
+                  (gives_at (state h) at m (tick h) here run.2.end image is))
             ]
       ]
 
@@ -158,7 +164,7 @@ module _ (limits : Limits) where
       ap (λ (b : Bool). cond b (state h, state h) (cond (nat_lt (last_tick begin older) m) (last_state start older, state h) (around start begin older m))) (lt_true (tick h) m lt)
 
   pub safe_after : (start : State) (begin : ℕ) (at : ℕ → States) (history : List Happening) → Run limits start begin at history → (m : ℕ) → last_tick begin history < m
-      → (image : Files) → Gives limits (last_state start history) image → Safely (acked start history m) (around start begin history m) image
-  safe_after start begin at history run m lt image gives =
-      subst (λ (p : State × State). Safely (acked start history m) p image) (sym (around_after start begin history m lt))
-      (from_new (acked start history m) (last_state start history) (last_state start history) image (acked_le start begin at history run m) (run_sound start begin at history run) gives)
+      → (states : States) (image : Files) → Gives limits (last_state start history) states image → Safely (acked start history m) (around start begin history m) states image
+  safe_after start begin at history run m lt states image gives =
+      subst (λ (p : State × State). Safely (acked start history m) p states image) (sym (around_after start begin history m lt))
+      (from_new (acked start history m) (last_state start history) (last_state start history) states image (acked_le start begin at history run m) (run_sound start begin at history run) gives)

@@ -7,7 +7,7 @@ use Rattle.gt_model.specs.Contents.{nothing, IsLegal}
 use Rattle.gt_model.specs.Machine.{State, line, PinsRead}
 use Rattle.gt_model.specs.Histories.{Happening, tick, state, last_tick, last_state, acked, around, Happens}
 use Rattle.gt_sound.specs.Sound.{AreSound}
-use Rattle.gt_part.specs.Recovery.{recover}
+use Rattle.gt_part.specs.Recovery.{recover, IsGood}
 use Rattle.gt_part.specs.Stored.{GivesEither, GivesThis}
 
 -- what a stop leaves at the moments of a happening, after which all contents are sound
@@ -36,8 +36,9 @@ CrashAt limits start begin at history m =
     (image : Files) → IsImage (at m) image → (log : List Entry) × (recover limits image ≡ Ok log)
     × IsSafe (acked start history m) (around start begin history m).0 (around start begin history m).1 log
 
--- A history holds on a disk: it is a run, whatever a stop at a moment until now leaves recovers safely, and now the disk has its last state, with the doubt or without.
+-- A history holds on a disk: it is a run; at each moment until now the disk may be handed in, and whatever a stop leaves recovers safely; and now the disk has its last state, with the doubt or without.
 pub record Holds (limits : Limits) (start : State) (begin : ℕ) (history : List Happening) (view : View) : Type 0 where
   pub run : Run limits start begin view.at history
   pub crash : (m : ℕ) → begin ≤ m → m ≤ view.clock → CrashAt limits start begin view.at history m
+  pub good : (m : ℕ) → begin ≤ m → m ≤ view.clock → IsGood limits (view.at m)
   pub ends : GivesThis limits (last_state start history) (now view)

@@ -9,18 +9,22 @@ use Rattle.gt_model.specs.declared.entry.Entry.{Entry}
 use Rattle.gt_model.specs.declared.limits.Limits.{Limits}
 use Rattle.gt_model.specs.Machine.{State, line}
 use Rattle.gt_part.specs.Spelling.{encode}
-use Rattle.gt_part.specs.Recovery.{recover, IsKept}
+use Rattle.gt_part.specs.Recovery.{recover, IsKept, KeepsFiles}
+
+-- An image of these states recovers to this log, by files that are still.
+abbrev pub GivesLog : Limits → List Entry → States → Files → Type 0
+GivesLog limits log states image = (recover limits image ≡ Ok log) × KeepsFiles log states
 
 -- an image gives this state, with its doubt or without
-abbrev pub Gives : Limits → State → Files → Type 0
-Gives limits s image = (recover limits image ≡ Ok s.log) ⊎ (recover limits image ≡ Ok (line s))
+abbrev pub Gives : Limits → State → States → Files → Type 0
+Gives limits s states image = GivesLog limits s.log states image ⊎ GivesLog limits (line s) states image
 
 abbrev pub GivesThis : Limits → State → States → Type 0
-GivesThis limits s states = (image : Files) → IsImage states image → Gives limits s image
+GivesThis limits s states = (image : Files) → IsImage states image → Gives limits s states image
 
 -- each image gives the state before an event or the one after it
 abbrev pub GivesEither : Limits → State → State → States → Type 0
-GivesEither limits old new states = (image : Files) → IsImage states image → Gives limits old image ⊎ Gives limits new image
+GivesEither limits old new states = (image : Files) → IsImage states image → Gives limits old states image ⊎ Gives limits new states image
 
 abbrev pub FilesHave : List Entry → Option Entry → States → Type 0
 FilesHave log None states = Stands (map encode log) states

@@ -1,6 +1,9 @@
 // Laws of the definitions alone. Each is the contract of a function that does nothing.
-ghost use Rattle.std.specs.Prelude.{◌≡◌, ◌≢◌, ℕ, List, false};
+ghost use Rattle.std.specs.Prelude.{◌≡◌, ◌≢◌, ℕ, List, None, false};
+ghost use Rattle.gt_disk.specs.Files.{Files, States, IsImage, still};
+ghost use Rattle.gt_model.specs.declared.limits.Limits.{Limits};
 ghost use Rattle.gt_model.specs.Machine.{Pin, is_live, free_number, released};
+ghost use Rattle.gt_part.specs.Recovery.{IsGood};
 
 /// The number that a transaction gets isn't live.
 pub fn free_numbers_are_free()
@@ -15,4 +18,14 @@ pub fn released_pins_are_gone()
 /// The end of a transaction leaves the others as they were.
 pub fn others_stay_live()
     ensures { (pins : List Pin) (number other : ℕ) → number ≢ other → is_live (released pins number) other ≡ is_live pins other }
+{}
+
+/// What a stop leaves of a disk that may be handed in may be handed in itself.
+pub fn stops_leave_good_disks()
+    ensures { (limits : Limits) (states : States) (image : Files) → IsGood limits states → IsImage states image → IsGood limits (λ file. still (image file)) }
+{}
+
+/// A disk without files may be handed in.
+pub fn empty_disks_are_good()
+    ensures { (limits : Limits) → IsGood limits (λ file. still None) }
 {}

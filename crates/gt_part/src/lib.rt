@@ -26,6 +26,9 @@ mod transacting;
 mod unread;
 mod writing;
 
-pub use laws::{free_numbers_are_free, others_stay_live, released_pins_are_gone};
+pub use laws::{
+    empty_disks_are_good, free_numbers_are_free, others_stay_live, released_pins_are_gone,
+    stops_leave_good_disks,
+};
 pub use partition::Partition;
 pub use pin::Pin;

@@ -1,6 +1,6 @@
 ghost use Rattle.std.specs.Prelude.{◌≡◌, ◌≤◌, ◌++◌, ℕ, [], ◌∷◌, List, length, IsTrue, IfOk, IfErr};
 ghost use Rattle.gt_disk.specs.Files.{Rose, now};
-ghost use Rattle.gt_disk.specs.Moments.{Narrows};
+ghost use Rattle.gt_disk.specs.Moments.{Since, Narrows};
 ghost use Rattle.gt_model.specs.Machine.{State, Settles, is_live};
 ghost use Rattle.gt_model.specs.Histories.{Happening};
 ghost use Rattle.gt_part.specs.Recovery.{recover, IsGood};
@@ -68,6 +68,11 @@ impl<D: Disk + Drop> Partition<D> {
         ensures moments { IsTrue D.tells → IfOk result (λ p. Narrows (D.view disk) (D.view p.disk)) }
         ensures moments_in_vain { IsTrue D.tells → IfErr result (λ e. Narrows (D.view disk) (D.view e.disk)) }
         ensures reads_in_vain { IsTrue D.tells → IfErr result (λ e. (D.view e.disk).reads ≡ (D.view disk).reads) }
+
+        // A disk that may be handed in may be handed in again at each moment.
+        ensures good_moments { IsTrue D.tells → IsGood limits (now (D.view disk)) → IfOk result (λ p. Since (IsGood limits) (D.view disk) (D.view p.disk)) }
+        ensures good_moments_in_vain { IsTrue D.tells → IsGood limits (now (D.view disk)) → IfErr result (λ e. Since (IsGood limits) (D.view disk) (D.view e.disk)) }
+        ensures good_in_vain { IsTrue D.tells → IsGood limits (now (D.view disk)) → IfErr result (λ e. IsGood limits (now (D.view e.disk))) }
 
         // Where whatever a stop may leave recovers, a run begins here.
         ensures run { IsTrue D.tells → IsGood limits (now (D.view disk)) → IfOk result (λ p. HasRun D.view p.state (D.view p.disk).clock [] p) }

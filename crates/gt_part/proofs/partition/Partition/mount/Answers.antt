@@ -5,7 +5,7 @@ use Rattle.gt_log.specs.Log.{gate_file, content_length}
 use Rattle.gt_model.specs.Machine.{Pin, sure}
 use Rattle.gt_part.specs.Shown.{IsRun}
 use Rattle.gt_part.specs.Recovery.{recover}
-use Rattle.gt_part.proofs.Histories.{first_opened, opened_sound, opened_stored, trail_same}
+use Rattle.gt_part.proofs.Histories.{first_opened, opened_sound, opened_stored, trail_same, good_beside, good_quiet, good_end}
 use Rattle.gt_part.proofs.partition.Partition.mount.Goals as goal
 
 pub returns-in-Ok-load-clause-moments : goal.returns-in-Ok-load-clause-moments
@@ -13,6 +13,21 @@ returns-in-Ok-load-clause-moments g c told = narrows_quiet _ _ _ (c.mount.ensure
 
 pub returns-in-Err-load-clause-moments_in_vain : goal.returns-in-Err-load-clause-moments_in_vain
 returns-in-Err-load-clause-moments_in_vain g c told = narrows_quiet _ _ _ (c.mount.ensures.narrows told) (c.load.ensures.quiet told)
+
+pub returns-in-Ok-load-clause-good_moments : goal.returns-in-Ok-load-clause-good_moments
+returns-in-Ok-load-clause-good_moments g c told = good_quiet c.args.limits _ _ _ (c.mount.ensures.run told) (c.mount.ensures.narrows told) (c.load.ensures.quiet told)
+
+pub returns-in-Err-load-clause-good_moments_in_vain : goal.returns-in-Err-load-clause-good_moments_in_vain
+returns-in-Err-load-clause-good_moments_in_vain g c told = good_quiet c.args.limits _ _ _ (c.mount.ensures.run told) (c.mount.ensures.narrows told) (c.load.ensures.quiet told)
+
+pub returns-in-Err-load-clause-good_in_vain : goal.returns-in-Err-load-clause-good_in_vain
+returns-in-Err-load-clause-good_in_vain g c told good = good_end c.args.limits _ _ good (good_quiet c.args.limits _ _ _ (c.mount.ensures.run told) (c.mount.ensures.narrows told) (c.load.ensures.quiet told) good)
+
+pub returns-in-Err-clause-good_moments_in_vain : goal.returns-in-Err-clause-good_moments_in_vain
+returns-in-Err-clause-good_moments_in_vain g c told = good_beside c.args.limits _ _ (c.mount.ensures.run told) (c.mount.ensures.narrows told)
+
+pub returns-in-Err-clause-good_in_vain : goal.returns-in-Err-clause-good_in_vain
+returns-in-Err-clause-good_in_vain g c told good = good_end c.args.limits _ _ good (good_beside c.args.limits _ _ (c.mount.ensures.run told) (c.mount.ensures.narrows told) good)
 
 pub returns-in-Ok-load-clause-run : goal.returns-in-Ok-load-clause-run
 returns-in-Ok-load-clause-run g c told good =

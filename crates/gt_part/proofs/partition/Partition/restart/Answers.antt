@@ -7,13 +7,13 @@ pub returns-clause-settles : goal.returns-clause-settles
 returns-clause-settles g c told start begin history run =
     let kept = ap (λ (s : Shown _). s.limits) c.self.view_is in
     (restarted_by g.D.Disk.view start begin history c.args.self c.unmount.result c.unmount.ensures (g.met.D.Disk.shows c.args.self.disk told) run _ _ kept c.mount.result
-    c.mount.ensures.kept (c.mount.ensures.answer told) c.mount.ensures.empty (c.mount.ensures.moments told) (c.mount.ensures.run told)).0
+    c.mount.ensures.kept (c.mount.ensures.answer told) c.mount.ensures.empty (c.mount.ensures.moments told) (c.mount.ensures.good_moments told) (c.mount.ensures.run told)).0
 
 pub returns-clause-run : goal.returns-clause-run
 returns-clause-run g c told start begin history run =
     let kept = ap (λ (s : Shown _). s.limits) c.self.view_is in
     (restarted_by g.D.Disk.view start begin history c.args.self c.unmount.result c.unmount.ensures (g.met.D.Disk.shows c.args.self.disk told) run _ _ kept c.mount.result
-    c.mount.ensures.kept (c.mount.ensures.answer told) c.mount.ensures.empty (c.mount.ensures.moments told) (c.mount.ensures.run told)).1
+    c.mount.ensures.kept (c.mount.ensures.answer told) c.mount.ensures.empty (c.mount.ensures.moments told) (c.mount.ensures.good_moments told) (c.mount.ensures.run told)).1
 
 pub returns-clause-answer : goal.returns-clause-answer
 returns-clause-answer g c told =
@@ -27,4 +27,7 @@ returns-clause-moments_in_vain g c told = rw c.unmount.ensures at (c.mount.ensur
 pub returns-clause-in_vain : goal.returns-clause-in_vain
 returns-clause-in_vain g c told start begin history run =
     let narrows = rw c.unmount.ensures at (c.mount.ensures.moments_in_vain told) in
-    reopened_in_vain g.D.Disk.view start begin history c.args.self run c.mount.result narrows
+    let kept = ap (λ (s : Shown _). s.limits) c.self.view_is in
+    let unmounted = rw c.unmount.ensures at (c.mount.ensures.good_moments_in_vain told) in
+    let moments = rw kept at unmounted in
+    reopened_in_vain g.D.Disk.view start begin history c.args.self run c.mount.result narrows moments
