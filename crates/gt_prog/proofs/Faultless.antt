@@ -1,5 +1,5 @@
--- What every call keeps a line keeps, and a session's own answers blame no disk.
-use Rattle.std.proofs.Common.{◌≡◌, inl, inr, ℕ, Bool, true, false, IsTrue, List, [], ◌∷◌, ◌++◌, length, Option, Some, None, Result, Ok, Err, refl, sym, ap, subst}
+-- What every call keeps a line keeps, and a session's own answers blame no disk and name no position.
+use Rattle.std.proofs.Common.{◌≡◌, inl, inr, ℕ, ◌≤◌, Bool, true, false, IsTrue, List, [], ◌∷◌, ◌++◌, length, Option, Some, None, Result, Ok, Err, refl, sym, ap, ◌∙◌, subst, arith}
 use Rattle.gt_name.specs.Paths.{bad_path}
 use Rattle.gt_name.specs.References.{bad_ref}
 use Rattle.gt_object.specs.declared.kind.Kind.{Kind}
@@ -12,8 +12,9 @@ use Rattle.gt_model.specs.declared.done.Done.TheVariants as done
 use Rattle.gt_model.specs.declared.event.Event.{Event}
 use Rattle.gt_model.specs.declared.event.Event.TheVariants as event
 use Rattle.gt_model.specs.declared.refusal.Refusal.{Refusal}
-use Rattle.gt_model.specs.declared.refusal.Refusal.TheVariants.{BadRef, BadPath, NotOpen, AlreadyOpen, Memory}
+use Rattle.gt_model.specs.declared.refusal.Refusal.TheVariants.{BadRef, BadPath, NotOpen, AlreadyOpen, StageFull, Memory}
 use Rattle.gt_model.specs.declared.who.Who.{Who}
+use Rattle.gt_model.specs.Histories.{position, done_position}
 use Rattle.gt_model.specs.Machine.{is_faulty, is_fault}
 use Rattle.gt_script.specs.declared.form.Form.{Form}
 use Rattle.gt_script.specs.declared.form.Form.TheVariants as line
@@ -25,11 +26,25 @@ use Rattle.gt_session.specs.Together.{Requests, GiveUp}
 
 -- ---- a session's own answers
 
--- no answer of the session's own comes of a failing disk
+-- It blames no disk, and names no position past this one.
+pub record IsWithin (n : ℕ) (answer : Result Done Refusal) : Type 0 where
+  pub sure : is_faulty answer ≡ false
+  pub named : position answer ≤ n
+
+-- no answer of the session's own comes of a failing disk, and none names a position but that of what was read
 abbrev pub IsFaultless : Course → Type 0
-IsFaultless (alone turned) = is_faulty turned.0 ≡ false
+IsFaultless (alone turned) = IsWithin 0 turned.0
 IsFaultless (asks e) = Unit {0}
-IsFaultless (reads e make) = (d : Done) → is_faulty (make d).0 ≡ false
+IsFaultless (reads e make) = (d : Done) → IsWithin (done_position d) (make d).0
+
+refusal_within : (r : Refusal) → is_fault r ≡ false → IsWithin 0 (Err r)
+refusal_within r is = record { sure = is; named = omega arith }
+
+done_within : (n : ℕ) (d : Done) → done_position d ≤ n → IsWithin n (Ok d)
+done_within n d le = record { sure = refl; named = le }
+
+within_more : (n : ℕ) (a : Result Done Refusal) → IsWithin 0 a → IsWithin n a
+within_more n a w = record { sure = w.sure; named = omega (arith, w.named) }
 
 abbrev IsEachFaultless : Option Course → Type 0
 IsEachFaultless None = Unit {0}
@@ -41,20 +56,20 @@ module _ (s : Session) where
     where
       by : (at : Option ℕ) → IsFaultless (elim at [ None ↦ c | Some p ↦ refused s (BadPath p) ])
       by None = ok
-      by (Some p) = refl
+      by (Some p) = refusal_within (BadPath p) refl
 
   ref_faultless : (text : List ℕ) (c : Course) → IsFaultless c → IsFaultless (with_ref s text c)
   ref_faultless text c ok = by (bad_ref text)
     where
       by : (bad : Option (ℕ × ℕ)) → IsFaultless (elim bad [ None ↦ c | Some b ↦ refused s (BadRef b.0 b.1) ])
       by None = ok
-      by (Some b) = refl
+      by (Some b) = refusal_within (BadRef b.0 b.1) refl
 
   open_faultless : (make : Open → Course) → ((o : Open) → IsFaultless (make o)) → IsFaultless (with_open s make)
   open_faultless make ok = by s.open
     where
       by : (o : Option Open) → IsFaultless (elim o [ None ↦ refused s NotOpen | Some x ↦ make x ])
-      by None = refl
+      by None = refusal_within NotOpen refl
       by (Some x) = ok x
 
   shut_faultless : (c : Course) → IsFaultless c → IsFaultless (unless_open s c)
@@ -62,49 +77,49 @@ module _ (s : Session) where
     where
       by : (o : Option Open) → IsFaultless (elim o [ None ↦ c | Some x ↦ refused s AlreadyOpen ])
       by None = ok
-      by (Some x) = refl
+      by (Some x) = refusal_within AlreadyOpen refl
 
-  staged_faultless : (o : Open) (over : Bool) (stage : Holding) (d : Done) → is_faulty (staged s o over stage d).0 ≡ false
-  staged_faultless o true stage d = refl
-  staged_faultless o false stage d = refl
+  staged_faultless : (o : Open) (over : Bool) (stage : Holding) (d : Done) → done_position d ≡ 0 → IsWithin 0 (staged s o over stage d).0
+  staged_faultless o true stage d none = refusal_within StageFull refl
+  staged_faultless o false stage d none = done_within 0 d (omega (arith, none))
 
   refusal_faultless : (e : ObjectError) → is_fault (refusal_of e) ≡ false
   refusal_faultless object.TooLarge = refl
   refusal_faultless (object.BadObject at) = refl
   refusal_faultless object.Memory = refl
 
-  put_faultless : (o : Open) (kind : Kind) (content : List ℕ) → is_faulty (put s o kind content).0 ≡ false
+  put_faultless : (o : Open) (kind : Kind) (content : List ℕ) → IsWithin 0 (put s o kind content).0
   put_faultless o kind content = by (why_not_new kind content)
     where
-      by : (why : Option ObjectError) → (let turned : Turned = elim why [ None ↦ put_record s o (header kind (length content) ++ content) | Some w ↦ (Err (refusal_of w), s) ] in is_faulty turned.0 ≡ false)
-      by None = staged_faultless o (is_over_bytes o.stage (header kind (length content) ++ content)) (staged_put o.stage (header kind (length content) ++ content)) _
-      by (Some w) = refusal_faultless w
+      by : (why : Option ObjectError) → (let turned : Turned = elim why [ None ↦ put_record s o (header kind (length content) ++ content) | Some w ↦ (Err (refusal_of w), s) ] in IsWithin 0 turned.0)
+      by None = staged_faultless o (is_over_bytes o.stage (header kind (length content) ++ content)) (staged_put o.stage (header kind (length content) ++ content)) _ refl
+      by (Some w) = refusal_within (refusal_of w) (refusal_faultless w)
 
-  old_faultless : (o : Open) (name : List ℕ) (old : Option (List ℕ)) (turned : List ℕ → Turned) → ((v : List ℕ) → is_faulty (turned v).0 ≡ false) → IsFaultless (with_old s o name old turned)
+  old_faultless : (o : Open) (name : List ℕ) (old : Option (List ℕ)) (turned : List ℕ → Turned) → ((v : List ℕ) → IsWithin 0 (turned v).0) → IsFaultless (with_old s o name old turned)
   old_faultless o name (Some old) turned ok = ok old
   old_faultless o name None turned ok = by (own_ref o.stage.staged.refs name)
     where
       by : (own : Option (List ℕ)) → IsFaultless (elim own [ Some v ↦ alone (turned v) | None ↦ reads (event.GetRef o.pin name) (λ d. turned (old_in d)) ])
       by (Some v) = ok v
-      by None = λ d. ok (old_in d)
+      by None = λ d. within_more (done_position d) (turned (old_in d)).0 (ok (old_in d))
 
   get_faultless : (o : Open) (name : List ℕ) → IsFaultless (get s o name)
   get_faultless o name = by (own_ref o.stage.staged.refs name)
     where
       by : (own : Option (List ℕ)) → IsFaultless (elim own [ Some v ↦ alone (Ok (done.Value (value_of v)), s) | None ↦ asks (event.GetRef o.pin name) ])
-      by (Some v) = refl
+      by (Some v) = done_within 0 (done.Value (value_of v)) (omega arith)
       by None = tt
 
   cat_faultless : (o : Open) (name : List ℕ) → IsFaultless (cat s o name)
   cat_faultless o name = by (own_record o.stage.staged.records name)
     where
       by : (own : Option (List ℕ)) → IsFaultless (elim own [ Some whole ↦ alone (Ok (done.Object whole), s) | None ↦ asks (event.Cat o.pin name) ])
-      by (Some whole) = refl
+      by (Some whole) = done_within 0 (done.Object whole) (omega arith)
       by None = tt
 
-  list_faultless : (o : Open) (prefix : List ℕ) (d : Done) → is_faulty (list_in s o prefix d).0 ≡ false
-  list_faultless o prefix (done.Refs list) = refl
-  list_faultless o prefix d = refl
+  list_faultless : (o : Open) (prefix : List ℕ) (d : Done) → IsWithin (done_position d) (list_in s o prefix d).0
+  list_faultless o prefix (done.Refs list) = record { sure = refl; named = omega arith }
+  list_faultless o prefix d = done_within (done_position d) d (omega arith)
 
   course_faultless : (form : Form) → IsEachFaultless (course s form)
   course_faultless (line.Create path None) = path_faultless path (asks (event.Create path false)) tt
@@ -113,10 +128,10 @@ module _ (s : Session) where
   course_faultless (line.Put kind content) = open_faultless (λ o. alone (put s o kind (content_of content))) (λ o. put_faultless o kind (content_of content))
   course_faultless (line.Set name old new) =
       open_faultless (λ o. with_ref s name (with_old s o name old (set s o name new)))
-      (λ o. ref_faultless name (with_old s o name old (set s o name new)) (old_faultless o name old (set s o name new) (λ v. staged_faultless o (is_over_refs o.stage name) (staged_set o.stage name v new) done.Staged)))
+      (λ o. ref_faultless name (with_old s o name old (set s o name new)) (old_faultless o name old (set s o name new) (λ v. staged_faultless o (is_over_refs o.stage name) (staged_set o.stage name v new) done.Staged refl)))
   course_faultless (line.Verify name old) =
       open_faultless (λ o. with_ref s name (with_old s o name old (check s o name)))
-      (λ o. ref_faultless name (with_old s o name old (check s o name)) (old_faultless o name old (check s o name) (λ v. staged_faultless o (is_over_refs o.stage name) (staged_check o.stage name v) done.Checked)))
+      (λ o. ref_faultless name (with_old s o name old (check s o name)) (old_faultless o name old (check s o name) (λ v. staged_faultless o (is_over_refs o.stage name) (staged_check o.stage name v) done.Checked refl)))
   course_faultless (line.Get name) = open_faultless (λ o. with_ref s name (get s o name)) (λ o. ref_faultless name (get s o name) (get_faultless o name))
   course_faultless (line.List prefix) = open_faultless (λ o. reads (event.ListRefs o.pin prefix) (list_in s o prefix)) (λ o. list_faultless o prefix)
   course_faultless (line.Cat name) = open_faultless (λ o. cat s o name) (λ o. cat_faultless o name)
@@ -160,13 +175,13 @@ module _ {P : Type 0} (Did : Who → Event → Result Done Refusal → P → P �
   not_faulty : (a b : Result Done Refusal) → a ≡ b → is_faulty b ≡ false → IsTrue (is_faulty a) → Rises
   not_faulty a b same sure is = absurd (cc (ap is_faulty same, sure, is))
 
-  makes_rises : (who : Who) (e : Event) (s : Session) (make : Done → Turned) (a : Result Done Refusal) (turned : Turned) → ((d : Done) → is_faulty (make d).0 ≡ false) → Did who e a old new → Makes (Did who) s make a turned → IsTrue (is_faulty turned.0) → Rises
-  makes_rises who e s make (Ok d) turned ok did (inl is) faulty = not_faulty turned.0 (make d).0 (ap (λ (t : Turned). t.0) is) (ok d) faulty
+  makes_rises : (who : Who) (e : Event) (s : Session) (make : Done → Turned) (a : Result Done Refusal) (turned : Turned) → ((d : Done) → IsWithin (done_position d) (make d).0) → Did who e a old new → Makes (Did who) s make a turned → IsTrue (is_faulty turned.0) → Rises
+  makes_rises who e s make (Ok d) turned ok did (inl is) faulty = not_faulty turned.0 (make d).0 (ap (λ (t : Turned). t.0) is) (ok d).sure faulty
   makes_rises who e s make (Ok d) turned ok did (inr is) faulty = not_faulty turned.0 (Err Memory) (ap (λ (t : Turned). t.0) is) refl faulty
   makes_rises who e s make (Err refusal) turned ok did is faulty = call who e (Err refusal) did (subst (λ (t : Turned). IsTrue (is_faulty t.0)) is faulty)
 
   takes_rises : (who : Who) (pin : ℕ) (s : Session) (c : Course) (turned : Turned) → IsFaultless c → Takes (Did who) pin s c turned old new → IsTrue (is_faulty turned.0) → Rises
-  takes_rises who pin s (alone answered) turned ok (inl h) faulty = not_faulty turned.0 answered.0 (ap (λ (t : Turned). t.0) h.0) ok faulty
+  takes_rises who pin s (alone answered) turned ok (inl h) faulty = not_faulty turned.0 answered.0 (ap (λ (t : Turned). t.0) h.0) ok.sure faulty
   takes_rises who pin s (alone answered) turned ok (inr h) faulty = not_faulty turned.0 (Err Memory) (ap (λ (t : Turned). t.0) h.0) refl faulty
   takes_rises who pin s (asks e) turned ok (inl h) faulty = call who e turned.0 h.0 faulty
   takes_rises who pin s (asks e) turned ok (inr h) faulty = not_faulty turned.0 (Err Memory) (ap (λ (t : Turned). t.0) h.1.0) refl faulty
@@ -180,3 +195,33 @@ module _ {P : Type 0} (Did : Who → Event → Result Done Refusal → P → P �
   pub requests_rises : (pin number session : ℕ) (form : Form) (answer : Result Done Refusal) (olds news : List Session) → Requests Did pin number session form answer olds news old new → IsTrue (is_faulty answer) → Rises
   requests_rises pin number session form answer olds news h faulty =
       does_rises (record { session = session; line = number }) pin h.before (course h.before form) (answer, h.after) (course_faultless h.before form) h.does faulty
+
+-- ---- a position that an answer names comes of a call
+
+module _ {P : Type 0} (Did : Who → Event → Result Done Refusal → P → P → Type 0) (old new : P) (n : ℕ) (call : (who : Who) (e : Event) (a : Result Done Refusal) → Did who e a old new → position a ≤ n) where
+  -- an answer that is this one
+  as_this : (a b : Result Done Refusal) → a ≡ b → position b ≤ n → position a ≤ n
+  as_this a b same le = subst (λ (x : Result Done Refusal). position x ≤ n) (sym same) le
+
+  wants : (turned : Turned) (s : Session) → turned ≡ (Err Memory, s) → position turned.0 ≤ n
+  wants turned s is = as_this turned.0 (Err Memory) (ap (λ (t : Turned). t.0) is) (omega arith)
+
+  makes_names : (who : Who) (e : Event) (s : Session) (make : Done → Turned) (a : Result Done Refusal) (turned : Turned) → ((d : Done) → IsWithin (done_position d) (make d).0) → Did who e a old new → Makes (Did who) s make a turned → position turned.0 ≤ n
+  makes_names who e s make (Ok d) turned ok did (inl is) = as_this turned.0 (make d).0 (ap (λ (t : Turned). t.0) is) (let le : done_position d ≤ n = call who e (Ok d) did in omega (arith, (ok d).named, le))
+  makes_names who e s make (Ok d) turned ok did (inr is) = wants turned s is
+  makes_names who e s make (Err refusal) turned ok did is = as_this turned.0 (Err refusal) (ap (λ (t : Turned). t.0) is) (omega arith)
+
+  takes_names : (who : Who) (pin : ℕ) (s : Session) (c : Course) (turned : Turned) → IsFaultless c → Takes (Did who) pin s c turned old new → position turned.0 ≤ n
+  takes_names who pin s (alone answered) turned ok (inl h) = as_this turned.0 answered.0 (ap (λ (t : Turned). t.0) h.0) (omega (arith, ok.named))
+  takes_names who pin s (alone answered) turned ok (inr h) = wants turned s h.0
+  takes_names who pin s (asks e) turned ok (inl h) = call who e turned.0 h.0
+  takes_names who pin s (asks e) turned ok (inr h) = wants turned s h.1.0
+  takes_names who pin s (reads e make) turned ok (inl h) = makes_names who e s make h.0 turned ok h.1 h.2
+  takes_names who pin s (reads e make) turned ok (inr h) = wants turned s h.0
+
+  does_names : (who : Who) (pin : ℕ) (s : Session) (c : Option Course) (turned : Turned) → IsEachFaultless c → Does (Did who) pin s c turned old new → position turned.0 ≤ n
+  does_names who pin s None turned ok h = absurd h
+  does_names who pin s (Some c) turned ok h = takes_names who pin s c turned ok h
+
+  pub requests_names : (pin number session : ℕ) (form : Form) (answer : Result Done Refusal) (olds news : List Session) → Requests Did pin number session form answer olds news old new → position answer ≤ n
+  requests_names pin number session form answer olds news h = does_names (record { session = session; line = number }) pin h.before (course h.before form) (answer, h.after) (course_faultless h.before form) h.does

@@ -1,8 +1,11 @@
+pub mod Acknowledged
 pub mod ScriptSteps
 pub mod SessionNumbers
 pub mod Built
 pub mod Framing
 pub mod Calls
+pub mod Completing
+pub mod Counting
 pub mod Faultless
 pub mod Asking
 pub mod Passes

@@ -5,14 +5,14 @@ use Rattle.std.proofs.lemmas.List.{append-nil, take_more, map-append}
 use Rattle.std.proofs.lemmas.Grind.{flat_map-append}
 use Rattle.std.specs.List.{flat_map}
 use Rattle.gt_disk.specs.declared.file_id.FileId.{FileId}
-use Rattle.gt_disk.specs.Files.{Files, States, View, now, IsImage}
+use Rattle.gt_disk.specs.Files.{Files, States, View, now, IsImage, Rose}
 use Rattle.gt_disk.specs.Moments.{Narrows}
 use Rattle.gt_model.specs.declared.done.Done.{Done}
 use Rattle.gt_model.specs.declared.done.Done.TheVariants.{Restarted}
 use Rattle.gt_model.specs.declared.entry.Entry.{Entry}
 use Rattle.gt_model.specs.declared.limits.Limits.{Limits}
 use Rattle.gt_model.specs.declared.refusal.Refusal.{Refusal}
-use Rattle.gt_model.specs.Machine.{State, Settles, sure, free_number}
+use Rattle.gt_model.specs.Machine.{State, Settles, sure, front, free_number, is_faulty}
 use Rattle.gt_model.specs.Histories.{Happening}
 use Rattle.gt_outside.specs.Written.{AppendsAll, AppendsFront}
 use Rattle.gt_part.specs.Called.{Called}
@@ -28,11 +28,15 @@ use Rattle.gt_script.specs.Printed.{printed as printed_answer}
 use Rattle.gt_session.specs.Sessions.{Session, forgotten}
 use Rattle.gt_session.specs.Courses.{has_course}
 use Rattle.gt_session.specs.Together.{Requests, GiveUp}
-use Rattle.gt_prog.specs.Lines.{Line, Past, Stand, past_of, standing, from_here, new_sessions, printed, numbered, asked_by, Happened, Restarts, Asked, LineBy, IsLine, AreLines, IsEnd}
-use Rattle.gt_prog.specs.Played.{Goes, DidOne, IsWhole, Played, PlayedWhole, PlayedPart, Went}
+use Rattle.gt_prog.specs.Lines.{Line, Past, Stand, past_of, standing, from_here, new_sessions, printed, numbered, asked_by, Counted, Happened, Restarts, Asked, LineBy, IsLine, AreLines, IsEnd}
+use Rattle.gt_prog.specs.declared.playing.PlayCause.{PlayCause}
+use Rattle.gt_prog.specs.declared.playing.PlayCause.TheVariants.{Write, Device, Damaged, Memory}
+use Rattle.gt_prog.specs.Played.{Goes, DidOne, IsWhole, Played, PlayedWhole, IsAtRestart, EndsAt, own_faults, PlayedPart, Went}
 use Rattle.gt_prog.specs.Replay.{IsOpened, Worked, WorkedPart, Replayed, ReplayedPart}
 use Rattle.gt_prog.proofs.Framing.{lines_over, end_over, lines_then, course_line}
+use Rattle.gt_prog.proofs.Acknowledged.{begins, still_named, lines_named, end_named, answers_kept}
 use Rattle.gt_prog.proofs.Calls.{told_as, requests_went, give_up_went}
+use Rattle.gt_prog.proofs.Counting.{counted_none, counted_more, counted_later, counted_besides, counted_earlier}
 
 -- ---- bytes
 
@@ -48,6 +52,34 @@ appends_nil (Some x) = sym (append-nil x)
 
 front_nil : (u : Option (List ℕ)) → AppendsFront u u []
 front_nil u = record { front = []; back = []; split = refl; grown = appends_nil u }
+
+-- ---- what ends the work
+
+-- an answer that isn't written
+ends_writing : (cause : PlayCause) → (cause ≡ Device → ⊥) → ((file : FileId) (at : ℕ) → cause ≡ Damaged file at → ⊥) → (line : Line) (rest : List (ℕ × Request)) → EndsAt cause (line ∷ []) rest
+ends_writing Write device damaged line rest = refl
+ends_writing Device device damaged line rest = absurd (device refl)
+ends_writing (Damaged file at) device damaged line rest = absurd (damaged file at refl)
+ends_writing Memory device damaged line rest = tt
+
+no_faults : (cause : PlayCause) → (cause ≡ Device → ⊥) → (first now : ℕ) (lines : List Line) → Counted 0 first now lines → Counted (own_faults cause) first now lines
+no_faults Write device first now lines counted = counted
+no_faults Device device first now lines counted = absurd (device refl)
+no_faults (Damaged file at) device first now lines counted = counted
+no_faults Memory device first now lines counted = counted
+
+-- a restart that fails
+ends_closing : (cause : PlayCause) → (cause ≡ Write → ⊥) → {rest : List (ℕ × Request)} → IsAtRestart [] rest → EndsAt cause [] rest
+ends_closing Write write at = absurd (write refl)
+ends_closing Device write at = at
+ends_closing (Damaged file place) write at = at
+ends_closing Memory write at = tt
+
+closing_faults : (cause : PlayCause) → (cause ≡ Write → ⊥) → (first before now : ℕ) (lines : List Line) → before ≤ now → (cause ≡ Device → Rose before now) → Counted 0 first before lines → Counted (own_faults cause) first now lines
+closing_faults Write write first before now lines later rose counted = absurd (write refl)
+closing_faults Device write first before now lines later rose counted = counted_besides first before now lines later (rose refl) counted
+closing_faults (Damaged file at) write first before now lines later rose counted = counted_later first before now lines later counted
+closing_faults Memory write first before now lines later rose counted = counted_later first before now lines later counted
 
 -- ---- numbers of lines
 
@@ -98,7 +130,7 @@ module _ {D : Type 0} (tells : Bool) (view : D → View) (limits : Limits) where
       let r : Restarts line (from_here first o.state) (standing last (past_of p.state later)) = record { answer = answer; sessions = forgets; settles = settles told start begin history run; tick = (view p.disk).clock; happened = is } in
       line_more limits line (from_here first o.state) (standing last (past_of p.state later)) (subst (λ (f : Form). LineBy limits f line (from_here first o.state) (standing last (past_of p.state later))) (sym form) r))
 
-module _ {D : Type 0} (tells : Bool) (view : D → View) where
+module _ {D : Type 0} (tells : Bool) (view : D → View) (fault_count : D → ℕ) where
   -- ---- what the lines made, on the disk
 
   pub went_of : (last : List Session) (o p : Shown D) (lines : List Line) → Goes tells view o.limits lines new_sessions last o p → IsTrue tells → (start : State) (begin : ℕ) (history : List Happening) → HasRun view start begin history o → Went view start begin history o (view p.disk) lines
@@ -136,15 +168,18 @@ module _ {D : Type 0} (tells : Bool) (view : D → View) where
     asked_part : (k : ℕ) (lines : List Line) → map asked_by lines ≡ numbered 1 (take k requests) → numbered 1 requests ≡ map asked_by lines ++ drop k (numbered 1 requests)
     asked_part k lines asked = sym (take-append-drop k (numbered 1 requests)) ∙ ap (λ (l : List (ℕ × Request)). l ++ drop k (numbered 1 requests)) (take-numbered k 1 requests ∙ sym asked)
 
-    module _ (number : ℕ) (number_is : number ≡ i + 1) (mid last : List Session) (p q : Shown D) (kept : p.limits ≡ o.limits) (reply : Result Done Refusal) (w u v : Option (List ℕ)) (done : Played tells view (take i requests) mid o p w u)
-        (one : DidOne tells view p.limits number request reply mid last p q) where
+    module _ (number : ℕ) (number_is : number ≡ i + 1) (mid last : List Session) (p q : Shown D) (kept : p.limits ≡ o.limits) (reply : Result Done Refusal) (w u v : Option (List ℕ)) (done : Played tells view fault_count (take i requests) mid o p w u)
+        (one : DidOne tells view p.limits number request reply mid last p q) (later : fault_count p.disk ≤ fault_count q.disk) (rose : IsTrue (is_faulty reply) → Rose (fault_count p.disk) (fault_count q.disk)) where
       abbrev line : Line
       line = record { number = number; request = request; answer = reply }
 
       all_go : Goes tells view o.limits (done.lines ++ line ∷ []) new_sessions last o q
       all_go = goes_then tells view o.limits new_sessions mid last o p q done.lines (line ∷ []) done.goes (subst (λ (l : Limits). DidOne tells view l number request reply mid last p q) kept one)
 
-      pub played_more : AppendsAll u v (printed_answer reply) → Played tells view (take (i + 1) requests) last o q w v
+      counted_line : Counted 0 (fault_count o.disk) (fault_count q.disk) (done.lines ++ line ∷ [])
+      counted_line = counted_more (fault_count o.disk) (fault_count p.disk) (fault_count q.disk) done.lines line later rose done.counted
+
+      pub played_more : AppendsAll u v (printed_answer reply) → Played tells view fault_count (take (i + 1) requests) last o q w v
       played_more bytes = record {
         lines = done.lines ++ line ∷ [];
         asked = asked_more done.lines line number number_is done.asked refl;
@@ -152,12 +187,13 @@ module _ {D : Type 0} (tells : Bool) (view : D → View) where
             let text : flat_map printed (done.lines ++ line ∷ []) ≡ flat_map printed done.lines ++ printed_answer reply =
             flat_map-append printed done.lines (line ∷ []) ∙ ap (λ (l : List ℕ). flat_map printed done.lines ++ l) (append-nil (printed_answer reply)) in
             let P : List ℕ → Type 0 = λ l. AppendsAll w v l in subst P (sym text) (appends_then w u v (flat_map printed done.lines) (printed_answer reply) done.bytes bytes);
+        counted = counted_line;
         goes = all_go;
       }
 
       -- it was done, and its answer isn't written whole
-      pub part_written : (d : D) → d ≡ q.disk → AppendsFront u v (printed_answer reply) → PlayedPart tells view requests o (view d) w v
-      part_written d same front = record {
+      pub part_written : (cause : PlayCause) (d : D) → (cause ≡ Device → ⊥) → ((file : FileId) (at : ℕ) → cause ≡ Damaged file at → ⊥) → d ≡ q.disk → AppendsFront u v (printed_answer reply) → PlayedPart tells view fault_count cause requests o d w v
+      part_written cause d device damaged same front = record {
         whole = done.lines;
         part = line ∷ [];
         at_most_one = omega arith;
@@ -166,33 +202,50 @@ module _ {D : Type 0} (tells : Bool) (view : D → View) where
         between = u;
         bytes = done.bytes;
         front = let P : List ℕ → Type 0 = λ l. AppendsFront u v l in subst P (sym (append-nil (printed_answer reply))) front;
+        ends = ends_writing cause device damaged line (drop (i + 1) (numbered 1 requests));
+        counted = subst (λ (x : D). Counted (own_faults cause) (fault_count o.disk) (fault_count x) (done.lines ++ line ∷ [])) (sym same) (no_faults cause device (fault_count o.disk) (fault_count q.disk) (done.lines ++ line ∷ []) counted_line);
         went = subst (λ (x : D). IsTrue tells → (start : State) (begin : ℕ) (history : List Happening) → HasRun view start begin history o → Went view start begin history o (view x) (done.lines ++ line ∷ [])) (sym same) (went_of last o q (done.lines ++ line ∷ []) all_go);
       }
 
     -- it wasn't done: the disk couldn't be opened anew
-    pub part_closed : (mid : List Session) (p : Shown D) (w u : Option (List ℕ)) (d e : D) → d ≡ e → Played tells view (take i requests) mid o p w u → (IsTrue tells → KeepsPast (view p.disk) (view e))
-        → (IsTrue tells → (start : State) (begin : ℕ) (history : List Happening) → HasRun view start begin history p → Holds p.limits start begin history (view e)) → PlayedPart tells view requests o (view d) w u
-    part_closed mid p w u d e same done past holds = record {
-      whole = done.lines;
-      part = [];
-      at_most_one = omega arith;
-      rest = drop i (numbered 1 requests);
-      asked = asked_part i (done.lines ++ []) (ap (map asked_by) (append-nil done.lines) ∙ done.asked);
-      between = u;
-      bytes = done.bytes;
-      front = front_nil u;
-      went = subst (λ (x : D). IsTrue tells → (start : State) (begin : ℕ) (history : List Happening) → HasRun view start begin history o → Went view start begin history o (view x) (done.lines ++ [])) (sym same)
-          (subst (λ (l : List Line). IsTrue tells → (start : State) (begin : ℕ) (history : List Happening) → HasRun view start begin history o → Went view start begin history o (view e) l) (sym (append-nil done.lines)) (went_on mid o p (view e) done.lines done.goes past holds));
-    }
+    module _ (number : ℕ) (number_is : number ≡ i + 1) (restart : request.form ≡ Restart) (cause : PlayCause) (write : cause ≡ Write → ⊥) where
+      abbrev behind : List (ℕ × Request)
+      behind = drop (i + 1) (numbered 1 requests)
 
-  pub played_none : (ss : List Session) (p : Shown D) (requests : List Request) (w : Option (List ℕ)) → ss ≡ new_sessions → Played tells view (take 0 requests) ss p p w w
-  played_none ss p requests w new = record { lines = []; asked = refl; bytes = appends_nil w; goes = subst (λ (l : List Session). Goes tells view p.limits [] new_sessions l p p) (sym new) (goes_none tells view p.limits new_sessions p) }
+      asked_closed : (lines : List Line) → map asked_by lines ≡ numbered 1 (take i requests) → numbered 1 requests ≡ map asked_by lines ++ (number, request) ∷ behind
+      asked_closed lines asked =
+          sym (take-append-drop (i + 1) (numbered 1 requests))
+          ∙ ap (λ (l : List (ℕ × Request)). l ++ behind) (take-numbered (i + 1) 1 requests ∙ sym (next_numbered number number_is))
+          ∙ append_assoc (numbered 1 (take i requests)) ((number, request) ∷ []) behind
+          ∙ ap (λ (l : List (ℕ × Request)). l ++ (number, request) ∷ behind) (sym asked)
 
-  pub played_all : (ss : List Session) (p q : Shown D) (requests : List Request) (n : ℕ) (w v : Option (List ℕ)) → take n requests ≡ requests → Played tells view (take n requests) ss p q w v → Played tells view requests ss p q w v
-  played_all ss p q requests n w v all played = subst (λ (l : List Request). Played tells view l ss p q w v) all played
+      pub part_closed : (mid : List Session) (p : Shown D) (w u : Option (List ℕ)) (d e : D) → d ≡ e → Played tells view fault_count (take i requests) mid o p w u → fault_count p.disk ≤ fault_count e
+          → (cause ≡ Device → Rose (fault_count p.disk) (fault_count e)) → (IsTrue tells → KeepsPast (view p.disk) (view e))
+          → (IsTrue tells → (start : State) (begin : ℕ) (history : List Happening) → HasRun view start begin history p → Holds p.limits start begin history (view e)) → PlayedPart tells view fault_count cause requests o d w u
+      part_closed mid p w u d e same done later rose past holds = record {
+        whole = done.lines;
+        part = [];
+        at_most_one = omega arith;
+        rest = (number, request) ∷ behind;
+        asked = asked_closed (done.lines ++ []) (ap (map asked_by) (append-nil done.lines) ∙ done.asked);
+        between = u;
+        bytes = done.bytes;
+        front = front_nil u;
+        ends = ends_closing cause write (record { none = refl; number = number; request = request; more = behind; next = refl; restart = restart });
+        counted = subst (λ (x : D). Counted (own_faults cause) (fault_count o.disk) (fault_count x) (done.lines ++ [])) (sym same)
+            (subst (λ (l : List Line). Counted (own_faults cause) (fault_count o.disk) (fault_count e) l) (sym (append-nil done.lines)) (closing_faults cause write (fault_count o.disk) (fault_count p.disk) (fault_count e) done.lines later rose done.counted));
+        went = subst (λ (x : D). IsTrue tells → (start : State) (begin : ℕ) (history : List Happening) → HasRun view start begin history o → Went view start begin history o (view x) (done.lines ++ [])) (sym same)
+            (subst (λ (l : List Line). IsTrue tells → (start : State) (begin : ℕ) (history : List Happening) → HasRun view start begin history o → Went view start begin history o (view e) l) (sym (append-nil done.lines)) (went_on mid o p (view e) done.lines done.goes past holds));
+      }
+
+  pub played_none : (ss : List Session) (p : Shown D) (requests : List Request) (w : Option (List ℕ)) → ss ≡ new_sessions → Played tells view fault_count (take 0 requests) ss p p w w
+  played_none ss p requests w new = record { lines = []; asked = refl; bytes = appends_nil w; counted = counted_none (fault_count p.disk); goes = subst (λ (l : List Session). Goes tells view p.limits [] new_sessions l p p) (sym new) (goes_none tells view p.limits new_sessions p) }
+
+  pub played_all : (ss : List Session) (p q : Shown D) (requests : List Request) (n : ℕ) (w v : Option (List ℕ)) → take n requests ≡ requests → Played tells view fault_count (take n requests) ss p q w v → Played tells view fault_count requests ss p q w v
+  played_all ss p q requests n w v all played = subst (λ (l : List Request). Played tells view fault_count l ss p q w v) all played
 
   -- nothing was done
-  pub part_none : (p : Shown D) (requests : List Request) (w : Option (List ℕ)) (d : D) → d ≡ p.disk → PlayedPart tells view requests p (view d) w w
+  pub part_none : (p : Shown D) (requests : List Request) (w : Option (List ℕ)) (d : D) → d ≡ p.disk → PlayedPart tells view fault_count Memory requests p d w w
   part_none p requests w d same = record {
     whole = [];
     part = [];
@@ -202,15 +255,18 @@ module _ {D : Type 0} (tells : Bool) (view : D → View) where
     between = w;
     bytes = appends_nil w;
     front = front_nil w;
+    ends = tt;
+    counted = subst (λ (x : D). Counted 0 (fault_count p.disk) (fault_count x) []) (sym same) (counted_none (fault_count p.disk));
     went = subst (λ (x : D). IsTrue tells → (start : State) (begin : ℕ) (history : List Happening) → HasRun view start begin history p → Went view start begin history p (view x) []) (sym same) (went_of new_sessions p p [] (goes_none tells view p.limits new_sessions p));
   }
 
   -- each session gave up what it had open, at the end of the input
-  pub played_whole : (fault_count : D → ℕ) (ss : List Session) (o p q : Shown D) (requests : List Request) (w v : Option (List ℕ)) → Played tells view requests ss o p w v → GiveUp (Called tells view fault_count) ss p q → PlayedWhole tells view requests o q w v
-  played_whole fault_count ss o p q requests w v played ends = record {
+  pub played_whole : (ss : List Session) (o p q : Shown D) (requests : List Request) (w v : Option (List ℕ)) → Played tells view fault_count requests ss o p w v → GiveUp (Called tells view fault_count) ss p q → fault_count p.disk ≤ fault_count q.disk → PlayedWhole tells view fault_count requests o q w v
+  played_whole ss o p q requests w v played ends later = record {
     lines = played.lines;
     asked = played.asked;
     bytes = played.bytes;
+    counted = counted_later (fault_count o.disk) (fault_count p.disk) (fault_count q.disk) played.lines later played.counted;
     goes = λ told start begin history run.
         let c = played.goes told start begin history run in
         continues_on view start begin history (λ later. AreLines o.limits played.lines (from_here new_sessions o.state) (standing ss (past_of p.state later))) (λ later. GiveUp (Happened o.limits) ss (past_of p.state []) (past_of q.state later))
@@ -224,6 +280,10 @@ damage_kept {D = D} view old new d e file at limits same is = ap (λ (x : D). re
 
 -- ---- the whole work
 
+-- what holds on a disk isn't damaged
+recovers_still : (limits : Limits) (start : State) (begin : ℕ) (history : List Happening) (v : View) → IsImage (now v) v.reads → Holds limits start begin history v → (file : FileId) (at : ℕ) → recover limits v.reads ≡ Err (file, at) → ⊥
+recovers_still limits start begin history v shows holds file at bad = ⊎_elim (λ out. absurd (cc (out.0, bad))) (λ in_. absurd (cc (in_.0, bad))) (holds.ends v.reads shows)
+
 opening_moments : (old mid new : View) → Narrows old mid → KeepsPast mid new → (m : ℕ) → old.clock ≤ m → m ≤ mid.clock → (image : Files) → IsImage (new.at m) image → IsImage (now old) image
 opening_moments old mid new narrows past m ge le image is =
     let here : IsImage (mid.at m) image = subst (λ (s : States). IsImage s image) (past.at m le) is in
@@ -233,7 +293,7 @@ opening_moments old mid new narrows past m ge le image is =
     (cases_lt old.clock m)
 
 is_opened : (limits : Limits) (old mid end : View) (log : List Entry) → recover limits old.reads ≡ Ok log → Narrows old mid → KeepsPast mid end → IsOpened limits old end log mid.clock
-is_opened limits old mid end log recovers narrows past = record { opens = recovers; later = narrows.later; moments = opening_moments old mid end narrows past }
+is_opened limits old mid end log recovers narrows past = record { opens = recovers; later = narrows.later; passed = past.clock; moments = opening_moments old mid end narrows past }
 
 holds_as : {D : Type 0} (view : D → View) (limits : Limits) (p : Shown D) (end : View) (happened : List Happening) (log : List Entry) → p.state ≡ sure log → p.limits ≡ limits → Holds p.limits p.state (view p.disk).clock (happened ++ []) end
     → Holds limits (sure log) (view p.disk).clock happened end
@@ -247,48 +307,58 @@ module _ {D : Type 0} (view : D → View) (limits : Limits) (old : View) (p : Sh
   lines_as stand did = subst (λ (s : State). AreLines limits lines (from_here new_sessions s) stand) state_is (subst (λ (l : Limits). AreLines l lines (from_here new_sessions p.state) stand) limits_is did)
 
   pub worked : (q : Shown D) → Continues view p.state (view p.disk).clock [] (IsWhole p.limits lines p.state q.state) p q → Worked limits old (view q.disk) lines
-  worked q c = record {
-    start = log;
-    begin = (view p.disk).clock;
-    opening = is_opened limits old (view p.disk) (view q.disk) log recovers narrows c.past;
-    stand = c.this.stand;
-    did = lines_as c.this.stand c.this.did;
-    end = past_of q.state c.later;
-    ends = subst (λ (l : Limits). IsEnd l c.this.stand (past_of q.state c.later)) limits_is c.this.ends;
-    holds = holds_as view limits p (view q.disk) c.later log state_is limits_is c.holds;
-  }
+  worked q c =
+      let did = lines_as c.this.stand c.this.did in
+      let end : Past = past_of q.state c.later in
+      let ends : IsEnd limits c.this.stand end = subst (λ (l : Limits). IsEnd l c.this.stand end) limits_is c.this.ends in
+      let holds = holds_as view limits p (view q.disk) c.later log state_is limits_is c.holds in
+      let named = lines_named limits (sure log) lines (from_here new_sessions (sure log)) c.this.stand did (begins log) in
+      let ended = end_named limits (sure log) c.this.stand end ends named.0 in
+      record {
+        start = log;
+        begin = (view p.disk).clock;
+        opening = is_opened limits old (view p.disk) (view q.disk) log recovers narrows c.past;
+        stand = c.this.stand;
+        did = did;
+        end = end;
+        ends = ends;
+        holds = holds;
+        keeps = answers_kept limits (sure log) (view p.disk).clock end (view q.disk) lines holds ended.0 (still_named limits (sure log) (front c.this.stand.past.state) (front end.state) lines ended.1 named.2);
+      }
 
   pub worked_part : (end : View) → Went view p.state (view p.disk).clock [] p end lines → WorkedPart limits old end lines
-  worked_part end went = record {
-    start = log;
-    begin = (view p.disk).clock;
-    opening = is_opened limits old (view p.disk) end log recovers narrows went.past;
-    stand = went.stand;
-    did = lines_as went.stand went.did;
-    holds = holds_as view limits p end went.stand.past.happened log state_is limits_is went.holds;
-  }
+  worked_part end went =
+      let did = lines_as went.stand went.did in
+      let holds = holds_as view limits p end went.stand.past.happened log state_is limits_is went.holds in
+      let named = lines_named limits (sure log) lines (from_here new_sessions (sure log)) went.stand did (begins log) in
+      record {
+        start = log;
+        begin = (view p.disk).clock;
+        opening = is_opened limits old (view p.disk) end log recovers narrows went.past;
+        stand = went.stand;
+        did = did;
+        holds = holds;
+        keeps = answers_kept limits (sure log) (view p.disk).clock went.stand.past end lines holds named.0 named.2;
+      }
 
 -- what a run over a mounted disk says of the disk as it was
-module _ {D : Type 0} (tells : Bool) (view : D → View) (limits : Limits) (requests : List Request) (old : View) (p : Shown D) (mounts : IsTrue tells → Mounts (recover limits old.reads) (Ok p)) (kept : p.limits ≡ limits)
-    (narrows : IsTrue tells → Narrows old (view p.disk)) (run : IsTrue tells → IsGood limits (now old) → HasRun view p.state (view p.disk).clock [] p) where
-  pub replayed : (q : Shown D) (d : D) (w v : Option (List ℕ)) → d ≡ q.disk → PlayedWhole tells view requests p q w v → Replayed tells limits requests old (view d) w v
+module _ {D : Type 0} (tells : Bool) (view : D → View) (fault_count : D → ℕ) (limits : Limits) (requests : List Request) (disk : D) (p : Shown D) (mounts : IsTrue tells → Mounts (recover limits (view disk).reads) (Ok p)) (kept : p.limits ≡ limits)
+    (narrows : IsTrue tells → Narrows (view disk) (view p.disk)) (run : IsTrue tells → IsGood limits (now (view disk)) → HasRun view p.state (view p.disk).clock [] p) (later : fault_count disk ≤ fault_count p.disk) where
+  pub replayed : (q : Shown D) (d : D) (w v : Option (List ℕ)) → d ≡ q.disk → PlayedWhole tells view fault_count requests p q w v → Replayed tells limits requests (view disk) (view d) (fault_count disk) (fault_count d) w v
   replayed q d w v same played = record {
     lines = played.lines;
     asked = played.asked;
     bytes = played.bytes;
+    counted = counted_earlier 0 (fault_count disk) (fault_count p.disk) (fault_count d) played.lines later (subst (λ (x : D). Counted 0 (fault_count p.disk) (fault_count x) played.lines) (sym same) played.counted);
     opens = λ told. ((mounts told).0, (mounts told).1);
     worked = λ told good.
         let m = mounts told in
-        let c = played.goes told p.state (view p.disk).clock [] (run told good) in
-        let here : Worked limits old (view q.disk) played.lines × IsGood limits (now (view q.disk)) = (
-          worked view limits old p played.lines m.0 m.1 m.2 kept (narrows told) q c,
-          subst (λ (l : Limits). IsGood l (now (view q.disk))) kept c.good,
-        ) in
-        subst (λ (x : D). Worked limits old (view x) played.lines × IsGood limits (now (view x))) (sym same) here;
+        subst (λ (x : D). Worked limits (view disk) (view x) played.lines) (sym same)
+        (worked view limits (view disk) p played.lines m.0 m.1 m.2 kept (narrows told) q (played.goes told p.state (view p.disk).clock [] (run told good)));
   }
 
-  pub replayed_part : (end : View) (w v : Option (List ℕ)) → PlayedPart tells view requests p end w v → ReplayedPart tells limits requests old end w v
-  replayed_part end w v played = record {
+  pub replayed_part : (cause : PlayCause) (end : D) (w v : Option (List ℕ)) → PlayedPart tells view fault_count cause requests p end w v → ReplayedPart tells limits cause requests (view disk) (view end) (fault_count disk) (fault_count end) w v
+  replayed_part cause end w v played = record {
     whole = played.whole;
     part = played.part;
     at_most_one = played.at_most_one;
@@ -297,8 +367,16 @@ module _ {D : Type 0} (tells : Bool) (view : D → View) (limits : Limits) (requ
     between = played.between;
     bytes = played.bytes;
     front = played.front;
+    ends = played.ends;
+    counted = counted_earlier (own_faults cause) (fault_count disk) (fault_count p.disk) (fault_count end) (played.whole ++ played.part) later played.counted;
     opens = λ told. ((mounts told).0, (mounts told).1);
     worked = λ told good.
         let m = mounts told in
-        worked_part view limits old p (played.whole ++ played.part) m.0 m.1 m.2 kept (narrows told) end (played.went told p.state (view p.disk).clock [] (run told good));
+        worked_part view limits (view disk) p (played.whole ++ played.part) m.0 m.1 m.2 kept (narrows told) (view end) (played.went told p.state (view p.disk).clock [] (run told good));
   }
+
+  -- over a disk that may be handed in nothing is found damaged later either
+  pub never_damaged : (cause : PlayCause) (end : D) (w v : Option (List ℕ)) (file : FileId) (at : ℕ) → PlayedPart tells view fault_count cause requests p end w v → IsTrue tells → IsGood limits (now (view disk)) → (IsTrue tells → IsImage (now (view end)) (view end).reads) → recover p.limits (view end).reads ≡ Err (file, at) → ⊥
+  never_damaged cause end w v file at played told good shows bad =
+      let went = played.went told p.state (view p.disk).clock [] (run told good) in
+      recovers_still p.limits p.state (view p.disk).clock (went.stand.past.happened ++ []) (view end) (shows told) went.holds file at bad

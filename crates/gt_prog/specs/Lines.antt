@@ -1,5 +1,5 @@
 -- The lines of a script with their answers, and what they make of the sessions and of the partition.
-use Rattle.std.specs.Prelude.{◌≡◌, ◌⊎◌, ℕ, ◌+◌, List, [], ◌∷◌, map, Result, Ok, Err}
+use Rattle.std.specs.Prelude.{◌≡◌, ◌⊎◌, ℕ, ◌+◌, ◌-◌, ◌^◌, ◌≤◌, if◌then◌else◌, List, [], ◌∷◌, map, Result, Ok, Err}
 use Rattle.gt_model.specs.declared.done.Done.{Done}
 use Rattle.gt_model.specs.declared.done.Done.TheVariants.{Restarted}
 use Rattle.gt_model.specs.declared.event.Event.{Event}
@@ -8,7 +8,7 @@ use Rattle.gt_model.specs.declared.refusal.Refusal.{Refusal}
 use Rattle.gt_model.specs.declared.refusal.Refusal.TheVariants.{Memory}
 use Rattle.gt_model.specs.declared.who.Who.{Who}
 use Rattle.gt_model.specs.Histories.{Happening, event, opened, kept}
-use Rattle.gt_model.specs.Machine.{State, Step, Settles, free_number}
+use Rattle.gt_model.specs.Machine.{State, Step, Settles, free_number, is_faulty}
 use Rattle.gt_part.specs.Shown.{turn_of}
 use Rattle.gt_script.specs.Printed.{printed as printed_answer}
 use Rattle.gt_script.specs.declared.form.Form.{Form}
@@ -63,6 +63,15 @@ asked_by line = (line.number, line.request)
 -- what is written for a line
 abbrev pub printed : Line → List ℕ
 printed line = printed_answer line.answer
+
+-- how many of these lines a failing disk answered
+abbrev pub faulty : List Line → ℕ
+faulty [] = 0
+faulty (line ∷ lines) = (if is_faulty line.answer then 1 else 0) + faulty lines
+
+-- The lines that a failing disk answered, and so many faults besides, are at most as many as its count of faults rose; or the count stands at its end.
+abbrev pub Counted : ℕ → ℕ → ℕ → List Line → Type 0
+Counted besides before now lines = (before + faulty lines + besides ≤ now) ⊎ (2 ^ 64 - 1 ≤ now)
 
 -- The machine makes a step with this answer, and the event has happened. Of a want of memory there may be no record, and then nothing has changed.
 abbrev pub Happened : Limits → Who → Event → Result Done Refusal → Past → Past → Type 0

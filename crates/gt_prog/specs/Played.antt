@@ -10,9 +10,12 @@ use Rattle.gt_model.specs.Histories.{Happening}
 use Rattle.gt_outside.specs.Written.{AppendsAll, AppendsFront}
 use Rattle.gt_part.specs.Crash.{Holds}
 use Rattle.gt_part.specs.Shown.{Shown, HasRun, Continues, KeepsPast}
+use Rattle.gt_script.specs.declared.form.Form.TheVariants.{Restart}
 use Rattle.gt_script.specs.declared.request.Request.{Request}
 use Rattle.gt_session.specs.Sessions.{Session}
-use Rattle.gt_prog.specs.Lines.{Line, Stand, past_of, standing, from_here, new_sessions, printed, numbered, asked_by, AreLines, IsEnd}
+use Rattle.gt_prog.specs.declared.playing.PlayCause.{PlayCause}
+use Rattle.gt_prog.specs.declared.playing.PlayCause.TheVariants.{Write, Device, Damaged, Memory}
+use Rattle.gt_prog.specs.Lines.{Line, Stand, past_of, standing, from_here, new_sessions, printed, numbered, asked_by, Counted, AreLines, IsEnd}
 
 -- These lines were done, and led from the first sessions to the others: whatever the history before, they are what came then.
 abbrev pub Goes : {D : Type 0} → Bool → (D → View) → Limits → List Line → List Session → List Session → Shown D → Shown D → Type 0
@@ -31,17 +34,19 @@ pub record IsWhole (limits : Limits) (lines : List Line) (old new : State) (happ
   pub ends : IsEnd limits stand (past_of new happened)
 
 -- These requests were done, and their answers and nothing else were written. The sessions, which were new, are these.
-pub record Played {D : Type 0} (tells : Bool) (view : D → View) (requests : List Request) (sessions : List Session) (old new : Shown D) (written out : Option (List ℕ)) : Type 0 where
+pub record Played {D : Type 0} (tells : Bool) (view : D → View) (fault_count : D → ℕ) (requests : List Request) (sessions : List Session) (old new : Shown D) (written out : Option (List ℕ)) : Type 0 where
   pub lines : List Line
   pub asked : map asked_by lines ≡ numbered 1 requests
   pub bytes : AppendsAll written out (flat_map printed lines)
+  pub counted : Counted 0 (fault_count old.disk) (fault_count new.disk) lines
   pub goes : Goes tells view old.limits lines new_sessions sessions old new
 
 -- All requests were done to the end of the run, and their answers and nothing else were written.
-pub record PlayedWhole {D : Type 0} (tells : Bool) (view : D → View) (requests : List Request) (old new : Shown D) (written out : Option (List ℕ)) : Type 0 where
+pub record PlayedWhole {D : Type 0} (tells : Bool) (view : D → View) (fault_count : D → ℕ) (requests : List Request) (old new : Shown D) (written out : Option (List ℕ)) : Type 0 where
   pub lines : List Line
   pub asked : map asked_by lines ≡ numbered 1 requests
   pub bytes : AppendsAll written out (flat_map printed lines)
+  pub counted : Counted 0 (fault_count old.disk) (fault_count new.disk) lines
   pub goes : IsTrue tells → (start : State) (begin : ℕ) (history : List Happening) → HasRun view start begin history old
       → Continues view start begin history (IsWhole old.limits lines old.state new.state) old new
 
@@ -52,8 +57,31 @@ pub record Went {D : Type 0} (view : D → View) (start : State) (begin : ℕ) (
   pub past : KeepsPast (view old.disk) end
   pub holds : Holds old.limits start begin (stand.past.happened ++ history) end
 
--- Some first requests were done. The answers of all but at most the last were written whole, and of that one's a front.
-pub record PlayedPart {D : Type 0} (tells : Bool) (view : D → View) (requests : List Request) (old : Shown D) (end : View) (written out : Option (List ℕ)) : Type 0 where
+-- a restart is the next request, and nothing of it was answered
+pub record IsAtRestart (part : List Line) (rest : List (ℕ × Request)) : Type 0 where
+  pub none : part ≡ []
+  pub number : ℕ
+  pub request : Request
+  pub more : List (ℕ × Request)
+  pub next : rest ≡ (number, request) ∷ more
+  pub restart : request.form ≡ Restart
+
+-- Where each cause ends the work: a failing output at an answer, a failing disk and damage at a restart alone, want of memory anywhere.
+abbrev pub EndsAt : PlayCause → List Line → List (ℕ × Request) → Type 0
+EndsAt Write part rest = length part ≡ 1
+EndsAt Device part rest = IsAtRestart part rest
+EndsAt (Damaged file at) part rest = IsAtRestart part rest
+EndsAt Memory part rest = Unit {0}
+
+-- the faults of the disk that a cause tells of
+abbrev pub own_faults : PlayCause → ℕ
+own_faults Write = 0
+own_faults Device = 1
+own_faults (Damaged file at) = 0
+own_faults Memory = 0
+
+-- Some first requests were done, until this cause ended the work. The answers of all but at most the last were written whole, and of that one's a front.
+pub record PlayedPart {D : Type 0} (tells : Bool) (view : D → View) (fault_count : D → ℕ) (cause : PlayCause) (requests : List Request) (old : Shown D) (end : D) (written out : Option (List ℕ)) : Type 0 where
   pub whole : List Line
   pub part : List Line
   pub at_most_one : length part ≤ 1
@@ -62,4 +90,6 @@ pub record PlayedPart {D : Type 0} (tells : Bool) (view : D → View) (requests 
   pub between : Option (List ℕ)
   pub bytes : AppendsAll written between (flat_map printed whole)
   pub front : AppendsFront between out (flat_map printed part)
-  pub went : IsTrue tells → (start : State) (begin : ℕ) (history : List Happening) → HasRun view start begin history old → Went view start begin history old end (whole ++ part)
+  pub ends : EndsAt cause part rest
+  pub counted : Counted (own_faults cause) (fault_count old.disk) (fault_count end) (whole ++ part)
+  pub went : IsTrue tells → (start : State) (begin : ℕ) (history : List Happening) → HasRun view start begin history old → Went view start begin history old (view end) (whole ++ part)

@@ -1,11 +1,13 @@
 -- What each status says.
-use Rattle.std.specs.Prelude.{◌≡◌, ◌⊎◌, ℕ, Bool, IsTrue, List, Option, Result, Ok, Err, IfSome, Vec}
+use Rattle.std.specs.Prelude.{◌≡◌, ◌⊎◌, ℕ, Bool, true, IsTrue, List, Option, Some, Result, Ok, Err, IfSome, Vec}
 use Rattle.std.specs.declared.alloc.Global.{Global}
-use Rattle.gt_disk.specs.Files.{View, Rose}
+use Rattle.gt_disk.specs.Files.{View, Rose, now}
 use Rattle.gt_disk.specs.Moments.{Narrows}
 use Rattle.gt_log.specs.declared.mount_cause.MountCause.{MountCause}
 use Rattle.gt_log.specs.declared.mount_cause.MountCause.TheVariants.{DeviceFault, Damaged as DamagedFile, Memory as NoMemoryToMount}
 use Rattle.gt_model.specs.declared.limits.Limits.{Limits}
+use Rattle.gt_model.specs.Usual.{usual}
+use Rattle.gt_part.specs.Recovery.{IsGood}
 use Rattle.gt_prog.specs.declared.playing.PlayCause.{PlayCause}
 use Rattle.gt_prog.specs.declared.playing.PlayCause.TheVariants.{Write, Device, Damaged as DamagedLater, Memory as NoMemoryToPlay}
 use Rattle.gt_script.specs.declared.request.Request.{Request}
@@ -13,6 +15,7 @@ use Rattle.gt_prog.specs.declared.status.Status.{Status}
 use Rattle.gt_prog.specs.declared.status.Status.TheVariants.{Done, Usage, ReadFault, WriteFault, DiskFault, Damaged, Memory, BadInput, NotYet}
 use Rattle.gt_prog.specs.Replay.{Replayed, ReplayedPart}
 use Rattle.gt_prog.specs.Script.{bad_at, not_yet_at, script_of}
+use Rattle.gt_prog.specs.Words.{is_replay}
 
 -- the greatest input, in bytes
 abbrev pub input_limit : ℕ
@@ -58,51 +61,40 @@ IsUnderway Memory = ⊥
 IsUnderway (BadInput line at) = ⊥
 IsUnderway (NotYet line) = ⊥
 
--- the statuses that may come before the requests or among them
-abbrev pub IsBreak : Status → Type 0
-IsBreak Done = ⊥
-IsBreak Usage = ⊥
-IsBreak ReadFault = ⊥
-IsBreak WriteFault = ⊥
-IsBreak (DiskFault disk) = Unit {0}
-IsBreak (Damaged disk file at) = Unit {0}
-IsBreak Memory = Unit {0}
-IsBreak (BadInput line at) = ⊥
-IsBreak (NotYet line) = ⊥
-
--- Nothing was written, and where the disk tells it, it reads as before and a stop can leave nothing new.
-pub record IsUntouched (tells : Bool) (old new : View) (written out : Option (List ℕ)) : Type 0 where
+-- Nothing was written, and where the disk tells it, it reads as before, a stop can leave nothing new, and it may be handed in again if it might before.
+pub record IsUntouched (tells : Bool) (limits : Limits) (old new : View) (written out : Option (List ℕ)) : Type 0 where
   pub silent : out ≡ written
   pub reads : IsTrue tells → new.reads ≡ old.reads
   pub moments : IsTrue tells → Narrows old new
+  pub good : IsTrue tells → IsGood limits (now old) → IsGood limits (now new)
 
 -- All requests of the input were done and answered.
-pub record IsDone (tells : Bool) (limits : Limits) (input : Option (List ℕ)) (old new : View) (written out : Option (List ℕ)) : Type 0 where
+pub record IsDone (tells : Bool) (limits : Limits) (input : Option (List ℕ)) (old new : View) (before after : ℕ) (written out : Option (List ℕ)) : Type 0 where
   pub requests : List Request
   pub asked : Asks input requests
-  pub replayed : Replayed tells limits requests old new written out
+  pub replayed : Replayed tells limits requests old new before after written out
 
--- The work ended among the requests of the input.
-pub record IsCutShort (tells : Bool) (limits : Limits) (input : Option (List ℕ)) (old new : View) (written out : Option (List ℕ)) : Type 0 where
+-- This cause ended the work among the requests of the input.
+pub record IsCutShort (tells : Bool) (limits : Limits) (cause : PlayCause) (input : Option (List ℕ)) (old new : View) (before after : ℕ) (written out : Option (List ℕ)) : Type 0 where
   pub requests : List Request
   pub asked : Asks input requests
-  pub replayed : ReplayedPart tells limits requests old new written out
+  pub replayed : ReplayedPart tells limits cause requests old new before after written out
 
--- The work ended before the requests, or among them.
-abbrev pub IsBroken : Bool → Limits → Option (List ℕ) → View → View → Option (List ℕ) → Option (List ℕ) → Type 0
-IsBroken tells limits input old new written out = IsUntouched tells old new written out ⊎ IsCutShort tells limits input old new written out
+-- The work ended before the requests, or this cause ended it among them.
+abbrev pub IsBroken : Bool → Limits → PlayCause → Option (List ℕ) → View → View → ℕ → ℕ → Option (List ℕ) → Option (List ℕ) → Type 0
+IsBroken tells limits cause input old new before after written out = IsUntouched tells limits old new written out ⊎ IsCutShort tells limits cause input old new before after written out
 
 -- how the work over known requests ends
-abbrev pub WorkEnds : Bool → Limits → List Request → View → View → Option (List ℕ) → Option (List ℕ) → Status → Type 0
-WorkEnds tells limits requests old new written out Done = Replayed tells limits requests old new written out
-WorkEnds tells limits requests old new written out Usage = ⊥
-WorkEnds tells limits requests old new written out ReadFault = ⊥
-WorkEnds tells limits requests old new written out WriteFault = ReplayedPart tells limits requests old new written out
-WorkEnds tells limits requests old new written out (DiskFault disk) = IsUntouched tells old new written out ⊎ ReplayedPart tells limits requests old new written out
-WorkEnds tells limits requests old new written out (Damaged disk file at) = IsUntouched tells old new written out ⊎ ReplayedPart tells limits requests old new written out
-WorkEnds tells limits requests old new written out Memory = IsUntouched tells old new written out ⊎ ReplayedPart tells limits requests old new written out
-WorkEnds tells limits requests old new written out (BadInput line at) = ⊥
-WorkEnds tells limits requests old new written out (NotYet line) = ⊥
+abbrev pub WorkEnds : Bool → Limits → List Request → View → View → ℕ → ℕ → Option (List ℕ) → Option (List ℕ) → Status → Type 0
+WorkEnds tells limits requests old new before after written out Done = Replayed tells limits requests old new before after written out
+WorkEnds tells limits requests old new before after written out Usage = ⊥
+WorkEnds tells limits requests old new before after written out ReadFault = ⊥
+WorkEnds tells limits requests old new before after written out WriteFault = ReplayedPart tells limits Write requests old new before after written out
+WorkEnds tells limits requests old new before after written out (DiskFault disk) = IsUntouched tells limits old new written out ⊎ ReplayedPart tells limits Device requests old new before after written out
+WorkEnds tells limits requests old new before after written out (Damaged disk file at) = IsUntouched tells limits old new written out ⊎ ReplayedPart tells limits (DamagedLater file at) requests old new before after written out
+WorkEnds tells limits requests old new before after written out Memory = IsUntouched tells limits old new written out ⊎ ReplayedPart tells limits NoMemoryToPlay requests old new before after written out
+WorkEnds tells limits requests old new before after written out (BadInput line at) = ⊥
+WorkEnds tells limits requests old new before after written out (NotYet line) = ⊥
 
 -- what reading the input gives: its requests, or the status with its cause
 abbrev pub ReadsInput : Result (Vec Request Global) Status → Option (List ℕ) → Type 0
@@ -120,6 +112,20 @@ ReadsInput (Err (NotYet line)) input = IsNotYetAt input line
 -- The count of faults of the host or of the disk rose.
 abbrev pub RoseEither : ℕ → ℕ → ℕ → ℕ → Type 0
 RoseEither host_before host_now disk_before disk_now = Rose host_before host_now ⊎ Rose disk_before disk_now
+
+-- The word is `replay`, the input is told and is a script that can be done, and the disk tells and may be handed in.
+pub record AreGood (tells : Bool) (words : List (List ℕ)) (input : Option (List ℕ)) (disk : View) : Type 0 where
+  pub telling : IsTrue tells
+  pub replay : is_replay words ≡ true
+  pub bytes : List ℕ
+  pub told : input ≡ Some bytes
+  pub requests : List Request
+  pub script : script_of input_limit bytes ≡ Ok requests
+  pub good : IsGood usual (now disk)
+
+-- A count of faults didn't rise, and doesn't stand at its end.
+abbrev pub Stays : ℕ → ℕ → Type 0
+Stays before after = Rose before after → ⊥
 
 abbrev pub status_of_mount : MountCause → Status
 status_of_mount DeviceFault = DiskFault 1

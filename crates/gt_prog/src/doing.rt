@@ -11,6 +11,7 @@ ghost use Rattle.gt_part.specs.Recovery.{recover};
 ghost use Rattle.gt_part.specs.Shown.{HasRun, KeepsPast};
 ghost use Rattle.gt_prog.specs.Played.{DidOne};
 ghost use Rattle.gt_prog.specs.Script.{HasSession, is_built};
+ghost use Rattle.gt_script.specs.declared.form.Form.TheVariants.{Restart};
 ghost use Rattle.gt_session.specs.Courses.{has_course};
 ghost use Rattle.gt_session.specs.Together.{AreHeld};
 
@@ -38,6 +39,7 @@ pub(crate) fn play_one<D: Disk + Drop>(
     ensures limits { IfOk result (λ r. r.0.limits ≡ local.limits) }
     ensures fault { IfOk result (λ r. IsTrue (is_faulty r.1) → Rose (D.fault_count local.disk) (D.fault_count r.0.disk)) }
     ensures later { IfOk result (λ r. D.fault_count local.disk ≤ D.fault_count r.0.disk) }
+    ensures only { IfErr result (λ e. request.now.form ≡ Restart) }
     ensures cause { IfErr result (HasMountCause D.fault_count local.disk) }
     ensures in_vain { IsTrue D.tells → (start : State) (begin : ℕ) (history : List Happening) → HasRun D.view start begin history local
         → IfErr result (λ e. Holds local.limits start begin history (D.view e.disk)) }

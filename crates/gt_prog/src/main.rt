@@ -2,13 +2,23 @@
 #![tactic(auto)]
 
 mod answering;
+#[cfg(test)]
+mod damage_tests;
 mod doing;
+#[cfg(test)]
+mod doubt_tests;
+#[cfg(test)]
+mod fault_tests;
 mod local;
+#[cfg(test)]
+mod outside_tests;
 mod playing;
 #[cfg(test)]
 mod row_tests;
 mod script;
 mod status;
+#[cfg(test)]
+mod stop_tests;
 #[cfg(test)]
 mod tests;
 mod top;

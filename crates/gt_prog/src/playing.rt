@@ -53,8 +53,8 @@ pub(crate) fn play<D: Disk + Drop, K: Sink>(
     requires few { length requests.now < 2 ^ 32 }
     requires built { not_built requests.now ≡ None }
     requires sessions { All HasSession requests.now }
-    ensures played { IfOk result (λ p. PlayedWhole D.tells D.view requests.now partition p (K.written sink.old) (K.written sink.new)) }
-    ensures part { IfErr result (λ e. PlayedPart D.tells D.view requests.now partition (D.view e.disk) (K.written sink.old) (K.written sink.new)) }
+    ensures played { IfOk result (λ p. PlayedWhole D.tells D.view D.fault_count requests.now partition p (K.written sink.old) (K.written sink.new)) }
+    ensures part { IfErr result (λ e. PlayedPart D.tells D.view D.fault_count e.cause requests.now partition e.disk (K.written sink.old) (K.written sink.new)) }
     ensures later { K.faults sink.old ≤ K.faults sink.new }
     ensures counts { IfOk result (λ p. D.fault_count partition.disk ≤ D.fault_count p.disk) }
     ensures counts_in_vain { IfErr result (λ e. D.fault_count partition.disk ≤ D.fault_count e.disk) }
@@ -91,9 +91,9 @@ fn play_lines<D: Disk + Drop, K: Sink>(
     requires sessions { All HasSession requests.now }
     requires begin { sessions.old ≡ new_sessions }
     requires held { AreHeld sessions.old (map (λ p. p.number) local.state.pins) }
-    ensures played { IfOk result (λ p. Played D.tells D.view requests.now sessions.new local p (K.written sink.old) (K.written sink.new)) }
+    ensures played { IfOk result (λ p. Played D.tells D.view D.fault_count requests.now sessions.new local p (K.written sink.old) (K.written sink.new)) }
     ensures held { IfOk result (λ p. AreHeld sessions.new (map (λ p. p.number) p.state.pins)) }
-    ensures part { IfErr result (λ e. PlayedPart D.tells D.view requests.now local (D.view e.disk) (K.written sink.old) (K.written sink.new)) }
+    ensures part { IfErr result (λ e. PlayedPart D.tells D.view D.fault_count e.cause requests.now local e.disk (K.written sink.old) (K.written sink.new)) }
     ensures later { K.faults sink.old ≤ K.faults sink.new }
     ensures counts { IfOk result (λ p. D.fault_count local.disk ≤ D.fault_count p.disk) }
     ensures counts_in_vain { IfErr result (λ e. D.fault_count local.disk ≤ D.fault_count e.disk) }

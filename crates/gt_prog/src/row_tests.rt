@@ -1,8 +1,8 @@
 // Whole scripts and their answers. The names are those that Git gives these contents.
 use crate::status::Status;
-use crate::tests::{nine_disks, ran};
+use crate::tests::{nine_disks, played, ran};
 use crate::top::gitstore_plain;
-use gt_disk::{Disk, FileId};
+use gt_disk::{Disk, FileId, MemDisk};
 use gt_outside::{Host, MemHost, MemSink, MemSource};
 use std::alloc::Global;
 use std::process::Abort;
@@ -85,6 +85,33 @@ const ENTRY_OF_FIRST_OLD_LAST_NEW: &[u8] =
 
 const ENTRY_OF_CHECK_ALONE: &[u8] =
     b"GTE2\x00\x00\x00\x00\x00\x00\x00\x03\x00\x05a.git\x04\x00\x00\x00\x01\x00\x0brefs/tags/t;\x18\xe5\x12\xdb\xa7\x9eL\x83\x00\xdd\x08\xae\xb3\x7f\x8er\x8b\x8d\xad\x00\x00\x00\x00\x00\x00\x00\x00\x00";
+
+/// Each worked script. They use the repository `a.git`.
+pub(crate) const WORKED: [&[u8]; 12] = [
+    PUSHED_AND_READ,
+    SECOND_CONFLICTS,
+    OWN_STAGE_FIRST,
+    FIRST_OLD_LAST_NEW,
+    USUAL_PUSH,
+    MISSING_TREE,
+    FOLDERS,
+    DELETED_MEANWHILE,
+    STALE_CHECK,
+    CHECK_ALONE,
+    REFUSALS,
+    LISTS,
+];
+
+/// Reads what any of these leaves: the references and each object, and by a creation the front.
+const READING: &[u8] =
+    b"1 begin a.git\n1 list\n1 cat 3b18e512dba79e4c8300dd08aeb37f8e728b8dad\n1 cat d670460b4b4aece5915caf5c68d12f560a9fe3e4\n1 cat e69de29bb2d1d6434b8b29ae775ad8c2e48c5391\n1 cat c19764ffafd06f9f21aeec56ff1065621b4ca480\n1 cat 5b8ab50e74e147f2fe6ee494927bbbba40c6cb57\n1 cat 8d7ff291d28b7f1109200d31f87a6f98fe7df90e\n2 create front.git\n";
+
+/// What is read from a disk that mounts.
+pub(crate) fn read_from(rt: &impl Abort, alloc: Global, disk: MemDisk) -> Result<Vec<u8>, Fail> {
+    let end = played(rt, alloc, disk, READING)?;
+    assert_eq!(rt; end.status, Status::Done);
+    Ok(end.output)
+}
 
 /// What entry 3 of the first disk is after a script.
 fn leaves(rt: &impl Abort, alloc: Global, input: &[u8], wanted: &[u8]) -> Result<(), Fail> {

@@ -1,7 +1,7 @@
 use crate::status::Status;
 use crate::top::gitstore_plain;
-use gt_disk::{Disk, FileId, MemDisk};
-use gt_outside::{MemHost, MemSink, MemSource};
+use gt_disk::{Disk, FileId, MemDisk, Stop};
+use gt_outside::{Host, MemHost, MemSink, MemSource};
 use std::alloc::Global;
 use std::process::Abort;
 use std::test::Fail;
@@ -33,6 +33,49 @@ pub(crate) fn ran(
     );
     assert_eq!(rt; sink.bytes(), output);
     Ok(())
+}
+
+/// A run that has ended: the first disk as it was given back, the status, and what was written.
+#[derive(Drop)]
+pub(crate) struct EndedRun {
+    pub(crate) disk: MemDisk,
+    pub(crate) status: Status,
+    pub(crate) output: Vec<u8>,
+}
+
+/// Runs a script over this first disk. Faults are planned on the disk before.
+pub(crate) fn played(
+    rt: &impl Abort,
+    alloc: Global,
+    first: MemDisk,
+    input: &[u8],
+) -> Result<EndedRun, Fail> {
+    let disks = nine_disks(alloc)?;
+    assert_eq!(rt; disks.len(), 9);
+    let mut host = MemHost::new(alloc, disks, &[])?;
+    if host.take(1).is_ok() {
+        host.give(1, first);
+    }
+    let mut source = MemSource::new(alloc, input, &[])?;
+    let mut sink = MemSink::new(alloc, &[])?;
+    let status = gitstore_plain(alloc, &["replay"], &mut host, &mut source, &mut sink);
+    let Ok(disk) = host.take(1) else {
+        return Err("the disk wasn't given back")?;
+    };
+    let output = sink.bytes().to_vec(alloc)?;
+    Ok(EndedRun {
+        disk,
+        status,
+        output,
+    })
+}
+
+/// The same disk once more, with its count of calls at 0 and no call that is to fail.
+pub(crate) fn copied(alloc: Global, disk: &MemDisk) -> Result<MemDisk, Fail> {
+    let Ok(copy) = disk.stopped(alloc, disk.tick(), Stop::Most) else {
+        return Err("memory")?;
+    };
+    Ok(copy)
 }
 
 #[test]

@@ -1,11 +1,12 @@
-ghost use Rattle.std.specs.Prelude.{◌≡◌, ◌≤◌, ◌<◌, ◌^◌, ◌↔◌, ℕ, length, false, IsTrue, IfOk, None, map, Err};
+ghost use Rattle.std.specs.Prelude.{◌≡◌, ◌⊎◌, ◌≤◌, ◌<◌, ◌^◌, ◌↔◌, ℕ, length, false, IsTrue, IfOk, None, map, Err};
 ghost use Rattle.std.specs.List.{All};
-ghost use Rattle.gt_disk.specs.Files.{Rose};
+ghost use Rattle.gt_disk.specs.Files.{Rose, now};
 ghost use Rattle.gt_disk.specs.declared.file_id.FileId.{FileId};
 ghost use Rattle.gt_model.specs.Usual.{usual};
-ghost use Rattle.gt_part.specs.Recovery.{recover};
+ghost use Rattle.gt_part.specs.Recovery.{recover, IsGood};
+ghost use Rattle.gt_prog.specs.declared.playing.PlayCause.{PlayCause};
 ghost use Rattle.gt_prog.specs.Script.{HasSession, not_built};
-ghost use Rattle.gt_prog.specs.Statuses.{IsBadAt, IsNotYetAt, IsGoodInput, IsDone, IsCutShort, IsBroken, IsBreak, IsEarly, IsUnderway, ReadsInput, RoseEither};
+ghost use Rattle.gt_prog.specs.Statuses.{AreGood, Stays, IsBadAt, IsNotYetAt, IsGoodInput, IsDone, IsCutShort, IsBroken, IsEarly, IsUnderway, ReadsInput, RoseEither};
 ghost use Rattle.gt_prog.specs.Words.{is_replay};
 
 use crate::script::{ScriptError, parse_script};
@@ -37,10 +38,20 @@ pub fn gitstore_plain<H: Host, S: Source, K: Sink>(
     requires { (n : ℕ) → H.is_out host.old n ≡ false }
 
     // What was done and written, by the status.
-    ensures done { result ≡ Status.Done → IsDone H.D.tells usual (S.left source.old) (H.disk_view host.old 1) (H.disk_view host.new 1) (K.written sink.old) (K.written sink.new) }
-    ensures cut_short { result ≡ Status.WriteFault → IsCutShort H.D.tells usual (S.left source.old) (H.disk_view host.old 1) (H.disk_view host.new 1) (K.written sink.old) (K.written sink.new) }
-    ensures broken { IsBreak result → IsBroken H.D.tells usual (S.left source.old) (H.disk_view host.old 1) (H.disk_view host.new 1) (K.written sink.old) (K.written sink.new) }
+    ensures done { result ≡ Status.Done → IsDone H.D.tells usual (S.left source.old) (H.disk_view host.old 1) (H.disk_view host.new 1) (H.disk_faults host.old 1) (H.disk_faults host.new 1) (K.written sink.old) (K.written sink.new) }
+    ensures cut_short { result ≡ Status.WriteFault → IsCutShort H.D.tells usual PlayCause.Write (S.left source.old) (H.disk_view host.old 1) (H.disk_view host.new 1) (H.disk_faults host.old 1) (H.disk_faults host.new 1) (K.written sink.old) (K.written sink.new) }
+    ensures failed { (disk : ℕ) → result ≡ Status.DiskFault disk → IsBroken H.D.tells usual PlayCause.Device (S.left source.old) (H.disk_view host.old 1) (H.disk_view host.new 1) (H.disk_faults host.old 1) (H.disk_faults host.new 1) (K.written sink.old) (K.written sink.new) }
+    ensures found_damaged { (disk : ℕ) (file : FileId) (at : ℕ) → result ≡ Status.Damaged disk file at → IsBroken H.D.tells usual (PlayCause.Damaged file at) (S.left source.old) (H.disk_view host.old 1) (H.disk_view host.new 1) (H.disk_faults host.old 1) (H.disk_faults host.new 1) (K.written sink.old) (K.written sink.new) }
+    ensures memory { result ≡ Status.Memory → IsBroken H.D.tells usual PlayCause.Memory (S.left source.old) (H.disk_view host.old 1) (H.disk_view host.new 1) (H.disk_faults host.old 1) (H.disk_faults host.new 1) (K.written sink.old) (K.written sink.new) }
     ensures untouched { IsEarly result → (H.disk_view host.new 1 ≡ H.disk_view host.old 1) × (K.written sink.new ≡ K.written sink.old) }
+
+    // Whatever the status, the disk may be handed in again where it might before.
+    ensures good { IsTrue H.D.tells → IsGood usual (now (H.disk_view host.old 1)) → IsGood usual (now (H.disk_view host.new 1)) }
+
+    // Nothing but want of memory keeps a good script over a good disk from its end where nothing fails.
+    ensures complete { AreGood H.D.tells (map (λ w. w.now) words.now) (S.left source.old) (H.disk_view host.old 1)
+        → Stays (S.faults source.old) (S.faults source.new) → Stays (K.faults sink.old) (K.faults sink.new) → Stays (H.faults host.old) (H.faults host.new) → Stays (H.disk_faults host.old 1) (H.disk_faults host.new 1)
+        → (result ≡ Status.Done) ⊎ (result ≡ Status.Memory) }
 
     // Its cause.
     ensures usage { (result ≡ Status.Usage) ↔ (is_replay (map (λ w. w.now) words.now) ≡ false) }

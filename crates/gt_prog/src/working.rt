@@ -1,8 +1,8 @@
-ghost use Rattle.std.specs.Prelude.{◌≡◌, ◌≤◌, ◌<◌, ◌^◌, ℕ, length, false, IsTrue, None, Err};
+ghost use Rattle.std.specs.Prelude.{◌≡◌, ◌≢◌, ◌≤◌, ◌<◌, ◌^◌, ℕ, length, false, IsTrue, None, Err};
 ghost use Rattle.std.specs.List.{All};
-ghost use Rattle.gt_disk.specs.Files.{Rose};
+ghost use Rattle.gt_disk.specs.Files.{Rose, now};
 ghost use Rattle.gt_disk.specs.declared.file_id.FileId.{FileId};
-ghost use Rattle.gt_part.specs.Recovery.{recover};
+ghost use Rattle.gt_part.specs.Recovery.{recover, IsGood};
 ghost use Rattle.gt_prog.specs.Script.{HasSession, not_built};
 ghost use Rattle.gt_prog.specs.Statuses.{RoseEither, WorkEnds, status_of_mount, status_of_play};
 
@@ -31,11 +31,12 @@ pub(crate) fn work<H: Host, K: Sink>(
     requires few { length requests.now < 2 ^ 32 }
     requires built { not_built requests.now ≡ None }
     requires sessions { All HasSession requests.now }
-    ensures ends { WorkEnds H.D.tells limits requests.now (H.disk_view host.old 1) (H.disk_view host.new 1) (K.written sink.old) (K.written sink.new) result }
+    ensures ends { WorkEnds H.D.tells limits requests.now (H.disk_view host.old 1) (H.disk_view host.new 1) (H.disk_faults host.old 1) (H.disk_faults host.new 1) (K.written sink.old) (K.written sink.new) result }
     ensures later { K.faults sink.old ≤ K.faults sink.new }
     ensures write { result ≡ Status.WriteFault → Rose (K.faults sink.old) (K.faults sink.new) }
     ensures device { (disk : ℕ) → result ≡ Status.DiskFault disk → (disk ≡ 1) × RoseEither (H.faults host.old) (H.faults host.new) (H.disk_faults host.old 1) (H.disk_faults host.new 1) }
     ensures damaged { (disk : ℕ) (file : FileId) (at : ℕ) → result ≡ Status.Damaged disk file at → (disk ≡ 1) × (IsTrue H.D.tells → recover limits (H.disk_view host.new 1).reads ≡ Err (file, at)) }
+    ensures undamaged { IsTrue H.D.tells → IsGood limits (now (H.disk_view host.old 1)) → (disk : ℕ) (file : FileId) (at : ℕ) → result ≢ Status.Damaged disk file at }
     ensures back { (n : ℕ) → H.is_out host.new n ≡ H.is_out host.old n }
 {
     let Ok(disk) = host.take(FIRST) else {
@@ -57,12 +58,13 @@ fn over_disk<D: Disk + Drop, K: Sink>(
     requires few { length requests.now < 2 ^ 32 }
     requires built { not_built requests.now ≡ None }
     requires sessions { All HasSession requests.now }
-    ensures ends { WorkEnds D.tells limits requests.now (D.view disk) (D.view result.0) (K.written sink.old) (K.written sink.new) result.1 }
+    ensures ends { WorkEnds D.tells limits requests.now (D.view disk) (D.view result.0) (D.fault_count disk) (D.fault_count result.0) (K.written sink.old) (K.written sink.new) result.1 }
     ensures later { K.faults sink.old ≤ K.faults sink.new }
     ensures counts { D.fault_count disk ≤ D.fault_count result.0 }
     ensures write { result.1 ≡ Status.WriteFault → Rose (K.faults sink.old) (K.faults sink.new) }
     ensures device { (number : ℕ) → result.1 ≡ Status.DiskFault number → (number ≡ 1) × Rose (D.fault_count disk) (D.fault_count result.0) }
     ensures damaged { (number : ℕ) (file : FileId) (at : ℕ) → result.1 ≡ Status.Damaged number file at → (number ≡ 1) × (IsTrue D.tells → recover limits (D.view result.0).reads ≡ Err (file, at)) }
+    ensures undamaged { IsTrue D.tells → IsGood limits (now (D.view disk)) → (number : ℕ) (file : FileId) (at : ℕ) → result.1 ≢ Status.Damaged number file at }
 {
     match Partition::mount(alloc, FIRST, disk, limits) {
         Err(error) => {
