@@ -1,5 +1,5 @@
 -- What holds where each check of a commit passes.
-use Rattle.std.proofs.Common.{◌≡◌, ℕ, Bool, true, false, not, ◌||◌, cond, is_some, List, [], ◌∷◌, map as map_list, filter, find, Option, Some, None, Result, Ok, Err, refl, sym, ◌∙◌, ap, subst, IsTrue, true≢false, is_ok}
+use Rattle.std.proofs.Common.{◌≡◌, ℕ, Bool, true, false, not, ◌||◌, cond, is_some, List, [], ◌∷◌, map as map_list, filter, find, Option, Some, None, Result, Ok, Err, refl, sym, ◌∙◌, ap, subst, IsTrue, true≢false, is_ok, length, arith}
 use Rattle.std.specs.List.{list_any, AllByRecursion, IsAmong}
 use Rattle.std.specs.Option.{option_map, option_or}
 use Rattle.std.specs.Ordering.{eq_by_cmp, is_eq}
@@ -19,8 +19,15 @@ use Rattle.gt_model.specs.declared.update.RefUpdate.{RefUpdate}
 use Rattle.gt_object.specs.Whole.{deps}
 use Rattle.gt_model.specs.Contents.{Content, Names, key_cmp, has_repo, and_then, is_visible, with_added}
 use Rattle.gt_model.specs.Verdicts.{Staged, Ready, same_name, first_some, target, is_staged, is_present, by_name, added_records, needed_names, conflict, directory, missing_value, missing_dep, failed, verdict}
-use Rattle.gt_model.proofs.Maps.{entries-empty}
 use Rattle.gt_model.proofs.Values.{same_key, with_added_keeps}
+
+no_items : {A : Type 0} (xs : List A) → length xs ≡ 0 → xs ≡ []
+no_items [] e = refl
+no_items (x ∷ xs) e = absurd (omega arith)
+
+-- the empty map has no entry
+pub entries-empty : (X : Type 0) → map.entries (map.empty {X = X} {R = key_cmp}) ≡ []
+entries-empty X = no_items _ (sym (map.len-entries map.empty) ∙ map.len-empty key_cmp X)
 
 -- ---- options and lists
 

@@ -1,11 +1,7 @@
 pub mod Checks
-pub mod Firsts
-pub mod Folders
 pub mod Logs
-pub mod Maps
 pub mod Repositories
 pub mod Runs
 pub mod Sound
 pub mod Steps
-pub mod Union
 pub mod Values

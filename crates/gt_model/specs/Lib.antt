@@ -4,4 +4,3 @@ pub mod Verdicts
 pub mod Machine
 pub mod Histories
 pub mod Usual
-pub mod Plain

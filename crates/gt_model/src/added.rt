@@ -3,7 +3,7 @@ use gt_name::Name;
 use gt_object::Record;
 
 /// A record under its name.
-#[derive(Clone, Debug, Drop, PartialEq)]
+#[derive(Clone, Drop)]
 pub struct Added {
     pub name: Name,
     pub whole: Record,

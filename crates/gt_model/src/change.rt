@@ -2,7 +2,7 @@ use crate::{AddedRecords, RefUpdates};
 use gt_name::{Names, RepoPath};
 
 /// What an entry does to the repository at its path.
-#[derive(Clone, Debug, Drop, PartialEq)]
+#[derive(Clone, Drop)]
 pub enum Change {
     /// A new repository, or a new pool.
     Create {

@@ -3,7 +3,7 @@ use gt_name::Name;
 use gt_object::Record;
 
 /// What was done.
-#[derive(Clone, Debug, Drop, PartialEq)]
+#[derive(Clone, Drop)]
 pub enum Done {
     /// A repository, or a pool, was made by the entry at this position.
     Created { position: u64, pool: bool },

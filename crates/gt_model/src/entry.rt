@@ -3,7 +3,7 @@ use gt_list::ListOf;
 use gt_name::RepoPath;
 
 /// One entry of a partition's log.
-#[derive(Clone, Debug, Drop, PartialEq)]
+#[derive(Clone, Drop)]
 pub struct Entry {
     /// Its place in the log, from 1.
     pub position: u64,

@@ -2,7 +2,7 @@ use crate::{AddedRecords, Job, RefUpdates, Word};
 use gt_name::{Name, RefName, RepoPath};
 
 /// What is asked of a partition. A transaction or a job is named by the number of its pin.
-#[derive(Clone, Debug, Drop, PartialEq)]
+#[derive(Clone, Drop)]
 pub enum Event {
     /// Make a repository, or a pool.
     Create {

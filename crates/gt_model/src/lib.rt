@@ -13,7 +13,6 @@ mod laws;
 mod limits;
 mod look;
 mod needer;
-mod plain;
 mod reference;
 mod refusal;
 mod trail;
@@ -37,7 +36,6 @@ pub use laws::{
 pub use limits::Limits;
 pub use look::Look;
 pub use needer::Needer;
-pub use plain::{PlainContent, PlainOwn, PlainReady, PlainRefs, PlainRepo, verdict};
 pub use reference::{RefAt, RefList, RefValue, RefsAt};
 pub use refusal::Refusal;
 pub use trail::Trail;
@@ -45,6 +43,3 @@ pub use turn::Turn;
 pub use update::{RefUpdate, RefUpdates};
 pub use who::Who;
 pub use word::Word;
-
-#[cfg(test)]
-mod tests;

@@ -1,7 +1,7 @@
 use gt_name::{Name, RefName};
 
 /// What names an object that isn't there.
-#[derive(Clone, Debug, Drop, PartialEq)]
+#[derive(Clone, Drop)]
 pub enum Needer {
     /// A reference, by its new value.
     Ref(RefName),

@@ -2,7 +2,7 @@ use gt_list::ListOf;
 use gt_name::{Name, RefName, RepoPath};
 
 /// A reference and its value.
-#[derive(Clone, Debug, Drop, PartialEq)]
+#[derive(Clone, Drop)]
 pub struct RefValue {
     pub name: RefName,
     pub value: Name,
@@ -12,7 +12,7 @@ pub struct RefValue {
 pub type RefList = ListOf<RefValue>;
 
 /// A reference of a repository, and its value.
-#[derive(Clone, Debug, Drop, PartialEq)]
+#[derive(Clone, Drop)]
 pub struct RefAt {
     pub path: RepoPath,
     pub name: RefName,

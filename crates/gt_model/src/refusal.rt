@@ -3,7 +3,7 @@ use gt_disk::FileId;
 use gt_name::{Name, RefName, RepoPath};
 
 /// Why nothing was done.
-#[derive(Clone, Debug, Drop, PartialEq)]
+#[derive(Clone, Drop)]
 pub enum Refusal {
     /// The content that is read lacks the path.
     NoRepository,

@@ -2,7 +2,7 @@ use crate::{RefsAt, Turn};
 use gt_list::Roomy;
 
 /// What happened in one opening of a partition.
-#[derive(Debug, Drop)]
+#[derive(Drop)]
 pub struct Trail {
     /// Its events, in order.
     pub turns: Roomy<Turn>,

@@ -1,7 +1,7 @@
 use crate::{Answer, Event, Who};
 
 /// A record of what was asked and what was answered.
-#[derive(Debug, Drop)]
+#[derive(Drop)]
 pub struct Turn {
     pub who: Who,
     pub event: Event,

@@ -2,7 +2,7 @@ use gt_list::ListOf;
 use gt_name::{Name, RefName};
 
 /// What a transaction does at one reference: it moves it, or only checks where it is.
-#[derive(Clone, Debug, Drop, PartialEq)]
+#[derive(Clone, Drop)]
 pub struct RefUpdate {
     pub name: RefName,
     /// The value that is expected there, zero where no reference is.

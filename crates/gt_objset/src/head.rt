@@ -7,7 +7,7 @@ use gt_model::Change;
 use gt_name::RepoPath;
 
 /// What an entry changes of a repository, but for its references and objects. None leaves it.
-#[derive(Debug, Drop)]
+#[derive(Drop)]
 pub struct HeadChange {
     /// It begins, or ends.
     pub life: Option<bool>,

@@ -28,7 +28,7 @@ use std::marker::Model;
 use std::mem;
 
 /// The objects of all repositories at each position from the floor to the front, and where their records stand.
-#[derive(Debug, Drop)]
+#[derive(Drop)]
 pub struct ObjSet {
     floor: u64,
     front: u64,

@@ -21,7 +21,7 @@ use std::marker::Model;
 
 /// One repository at each position: since when it is there, whether it is a pool, the path of its pool, and the places of
 /// its own objects. What was given before it began anew doesn't count any more.
-#[derive(Debug, Drop)]
+#[derive(Drop)]
 pub struct Repo {
     lives: Versions<bool>,
     kinds: Versions<Option<bool>>,

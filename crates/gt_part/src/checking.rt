@@ -19,7 +19,7 @@ use gt_verify::{Ready, VerifyError, verdict};
 use std::alloc::Global;
 
 /// What the checks of a commit come to.
-#[derive(Debug, Drop)]
+#[derive(Drop)]
 pub(crate) enum Checked {
     /// This entry is to be added.
     Good(Entry),

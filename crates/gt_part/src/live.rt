@@ -8,7 +8,7 @@ use std::alloc::Global;
 use std::marker::Model;
 
 /// A live transaction: the number of its pin, the position that it reads, and its repository.
-#[derive(Debug, Drop)]
+#[derive(Drop)]
 pub(crate) struct LivePin {
     pub(crate) number: u8,
     pub(crate) position: u64,
@@ -16,7 +16,7 @@ pub(crate) struct LivePin {
 }
 
 /// The live transactions, in order of beginning.
-#[derive(Debug, Drop)]
+#[derive(Drop)]
 pub(crate) struct Live {
     pins: Vec<LivePin>,
 }

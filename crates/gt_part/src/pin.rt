@@ -1,7 +1,7 @@
 use std::marker::Model;
 
 /// The leave of a live transaction. Only the partition makes one; contracts see its number.
-#[derive(Debug, Drop)]
+#[derive(Drop)]
 pub struct Pin {
     pub(crate) number: u8,
 }

@@ -6,7 +6,7 @@ use gt_list::NoMemory;
 use gt_model::{Answer, Refusal};
 
 /// What an event is answered, and what its record keeps of that.
-#[derive(Debug, Drop)]
+#[derive(Drop)]
 pub(crate) struct Reply {
     pub(crate) answer: Answer,
     pub(crate) kept: Answer,

@@ -36,7 +36,7 @@ pub(crate) enum PlayCause {
 }
 
 /// The work ended early, and why.
-#[derive(Debug, Drop)]
+#[derive(Drop)]
 pub(crate) struct PlayError<D> {
     pub(crate) cause: PlayCause,
     pub(crate) disk: D,

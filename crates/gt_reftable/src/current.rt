@@ -21,7 +21,7 @@ use std::mem;
 
 /// The references of a repository that are there at the newest position. Those of its earlier lives don't count, and are set
 /// aside where memory is taken: to let them go costs time in proportion to them.
-#[derive(Debug, Drop)]
+#[derive(Drop)]
 pub struct Current {
     refs: Slots,
     is_over: bool,

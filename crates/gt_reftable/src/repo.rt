@@ -19,7 +19,7 @@ use std::marker::Model;
 
 /// When a repository was made or deleted, and its references: all that were written, and apart those that are there at the
 /// newest position.
-#[derive(Debug, Drop)]
+#[derive(Drop)]
 pub struct Repo {
     lives: Versions<bool>,
     refs: Slots,

@@ -18,7 +18,7 @@ use std::collections::BTreeMap;
 use std::marker::Model;
 
 /// The references of every repository at each position from the floor to the front, while entries are added.
-#[derive(Debug, Drop)]
+#[derive(Drop)]
 pub struct RefTable {
     floor: u64,
     front: u64,

@@ -7,7 +7,7 @@ ghost use Rattle.gt_slots.specs.Pages.{probe, ends_before, all, page, IsWell, Is
 use crate::page::{Page, Slot, count_before, ends_before};
 
 /// The index of a page, and of a reference in it.
-#[derive(Clone, Copy, Debug)]
+#[derive(Clone, Copy)]
 pub(crate) struct Place {
     pub(crate) page: usize,
     pub(crate) slot: usize,

@@ -18,7 +18,7 @@ use std::marker::Model;
 pub(crate) type Slot = (RefName, Versions<Option<Name>>);
 
 /// Some references that follow each other.
-#[derive(Debug, Drop)]
+#[derive(Drop)]
 pub(crate) struct Page {
     slots: Vec<Slot>,
 }

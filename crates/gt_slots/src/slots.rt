@@ -22,7 +22,7 @@ use std::alloc::Global;
 use std::marker::Model;
 
 /// The references of one repository, each with its values from positions on: none where it was deleted.
-#[derive(Debug, Drop)]
+#[derive(Drop)]
 pub struct Slots {
     pages: Vec<Page>,
 }

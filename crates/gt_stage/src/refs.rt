@@ -11,7 +11,7 @@ use std::alloc::Global;
 use std::marker::Model;
 
 /// What is staged of a reference: the value that is expected there, and the one that it gets. None is a check.
-#[derive(Clone, Copy, Debug)]
+#[derive(Clone, Copy)]
 pub(crate) struct Aim {
     pub(crate) old: Name,
     pub(crate) new: Option<Name>,

@@ -7,7 +7,7 @@ use gt_name::{Name, RefName};
 use std::alloc::AllocError;
 
 /// Why a commit is refused.
-#[derive(Debug, Drop, PartialEq)]
+#[derive(Drop)]
 pub enum VerifyError {
     /// The content lacks the path.
     RepositoryGone,

@@ -7,7 +7,7 @@ use gt_stage::Stage;
 use std::alloc::Global;
 
 /// A record that is added, by its name, and the objects that it mentions.
-#[derive(Debug, Drop)]
+#[derive(Drop)]
 pub(crate) struct Needing {
     pub(crate) name: Name,
     pub(crate) deps: Names,

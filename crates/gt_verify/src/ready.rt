@@ -2,7 +2,7 @@ use gt_model::RefUpdates;
 use gt_name::Names;
 
 /// What a good commit does.
-#[derive(Debug, Drop, PartialEq)]
+#[derive(Drop)]
 pub struct Ready {
     /// Its updates and checks, in order of first staging.
     pub refs: RefUpdates,

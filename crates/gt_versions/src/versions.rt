@@ -10,7 +10,7 @@ use std::marker::Model;
 
 /// The values of one key, each from its position on, with room for further ones. Contracts see the pairs of position and
 /// value, ascending, and for how many more there is room.
-#[derive(Debug, Drop)]
+#[derive(Drop)]
 pub struct Versions<V> {
     items: Vec<(u64, V)>,
 }

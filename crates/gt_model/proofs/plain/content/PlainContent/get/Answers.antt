@@ -1,7 +1,0 @@
-use Rattle.std.proofs.Common.{sym, ap, ◌∙◌}
-use Rattle.std.specs.FinMap as map
-use Rattle.gt_model.proofs.Maps.{get_key}
-use Rattle.gt_model.proofs.plain.content.PlainContent.get.Goals as goal
-
-pub returns : goal.returns
-returns c = c.get.ensures.value ∙ sym (get_key c.self.inside.repos.entries c.args.path.now) ∙ ap (λ m. map.get m c.args.path.now) c.self.view_is

@@ -1,7 +1,0 @@
-use Rattle.std.proofs.Common.{ap, ◌∙◌}
-use Rattle.std.specs.FinMap as map
-use Rattle.gt_model.proofs.Maps.{inserted}
-use Rattle.gt_model.proofs.plain.content.PlainContent.set.Goals as goal
-
-pub returns-clause-ok : goal.returns-clause-ok
-returns-clause-ok c = inserted c.self.inside.repos.entries c.insert.new.self.entries c.args.path c.args.repo c.in_ok-insert.ensures.updates.0 ∙ ap (λ m. map.insert m c.args.path c.args.repo) c.self.view_is

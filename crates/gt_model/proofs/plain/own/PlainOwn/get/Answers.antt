@@ -1,7 +1,0 @@
-use Rattle.std.proofs.Common.{sym, ap, ◌∙◌}
-use Rattle.std.specs.FinMap as map
-use Rattle.gt_model.proofs.Maps.{get_key}
-use Rattle.gt_model.proofs.plain.own.PlainOwn.get.Goals as goal
-
-pub returns : goal.returns
-returns c = c.get.ensures.value ∙ sym (get_key c.self.inside.tree.entries c.args.name.now) ∙ ap (λ m. map.get m c.args.name.now) c.self.view_is

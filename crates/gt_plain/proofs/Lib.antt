@@ -1,0 +1,4 @@
+mod Firsts
+mod Folders
+mod Maps
+mod Union
