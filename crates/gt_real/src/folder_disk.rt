@@ -1,113 +1,142 @@
-ghost use Rattle.std.specs.Prelude.{◌≡◌, ◌≤◌, IfOk, IfSome, length};
+ghost use Rattle.std.specs.Prelude.{◌≡◌, ◌≤◌, IfOk, IfSome, IsOk, IsErr, length, true, false};
 ghost use Rattle.gt_disk.specs.Files.{IsPast};
 
 use crate::counting::{counted, counted_change};
 use crate::filling::fill;
 use crate::kept::{Kept, opened_to_append, other_than, replaced};
-use crate::making::make_folder;
+use crate::making::owned_folder;
 use crate::names::Names;
 use crate::naming::path_of;
+use crate::trouble::{Trouble, during, tell, tell_of_file, unless_absent};
 use gt_disk::{Disk, DiskError, Failed, FileId};
+use std::fs;
 use std::fs::{File, OpenFile, remove_file};
-use std::io::{ErrorKind, Seek, SeekFrom, Write};
+use std::io::{Error, Seek, SeekFrom, Write};
 use std::rt::Files;
-use std::{fs, io};
 
 /// A folder as a disk: one file for each, named `<kind>-<number>` in decimal. It tells nothing of content.
-/// Nobody else may change the folder while it is open.
+///
+/// As long as it is open nobody else opens the folder as a disk, in this process or another one: the folder is locked, and the
+/// system takes the lock away with the process. After a sync that failed each later change and sync fails: what the system
+/// dropped then no later sync makes last. A disk that is opened anew begins again.
+///
+/// A call of the system that fails is told on standard error, with the file and the system's error.
 #[derive(Drop)]
-pub struct FolderDisk<R: Files + AllocGlobal + Clone + Drop> {
+pub struct FolderDisk<R: Files<File = File> + Eprint + AllocGlobal + Clone + Drop> {
     rt: R,
     path: String,
-    folder: R::File,
-    replaced: Option<Kept<R::File>>,
-    appended: Option<Kept<R::File>>,
+    folder: File,
+    replaced: Option<Kept<File>>,
+    appended: Option<Kept<File>>,
     names: Option<Names>,
+    has_failed_sync: bool,
     faults: u64,
 }
 
 // The length of the longest file that the system can seek in, and 1.
 const END_OF_PLACES: u64 = 0x8000_0000_0000_0000;
 
-impl<R: Files + AllocGlobal + Clone + Drop> FolderDisk<R> {
-    /// Opens the folder of this path, and makes it where it is absent. Its parent has to be there.
-    pub fn open(rt: R, path: String) -> io::Result<FolderDisk<R>>
+impl<R: Files<File = File> + Eprint + AllocGlobal + Clone + Drop> FolderDisk<R> {
+    /// Opens the folder of this path, and makes it where it is absent. Its parent has to be there. It fails where the folder is
+    /// open as a disk already.
+    pub fn open(rt: R, path: String) -> Result<FolderDisk<R>, Failed>
         ensures { IfOk result (λ disk. ⟦<FolderDisk<R> as Disk>⟧.fault_count disk ≡ 0) }
     {
         FolderDisk::open_counted(rt, path, 0)
     }
 
     /// As `open`, with this many faults so far.
-    pub(crate) fn open_counted(rt: R, path: String, faults: u64) -> io::Result<FolderDisk<R>>
+    pub(crate) fn open_counted(rt: R, path: String, faults: u64) -> Result<FolderDisk<R>, Failed>
         ensures { IfOk result (λ disk. ⟦<FolderDisk<R> as Disk>⟧.fault_count disk ≡ faults) }
     {
-        make_folder(&rt, path.as_str())?;
-        let folder = File::open(&rt, path.as_str())?;
-        Ok(FolderDisk {
-            rt,
-            path,
-            folder,
-            replaced: None,
-            appended: None,
-            names: None,
-            faults,
-        })
-    }
-
-    fn try_len(&self, file: FileId) -> io::Result<Option<u64>> {
-        let path = path_of(self.rt.alloc(), self.path.as_str(), file)?;
-        match fs::metadata(&self.rt, path.as_str()) {
-            Ok(found) => Ok(Some(found.len())),
-            Err(error) if error.kind() == ErrorKind::NotFound => Ok(None),
-            Err(error) => Err(error),
+        let owned = owned_folder(&rt, path.as_str());
+        tell(&rt, path.as_str(), &owned);
+        match owned {
+            Ok(folder) => Ok(FolderDisk {
+                rt,
+                path,
+                folder,
+                replaced: None,
+                appended: None,
+                names: None,
+                has_failed_sync: false,
+                faults,
+            }),
+            Err(_) => Err(Failed),
         }
     }
 
-    fn try_read(&self, file: FileId, at: u64, into: &mut [u8]) -> io::Result<usize>
+    // Whether a change can still be made to last.
+    fn may_change(&self) -> Result<(), Trouble>
+        ensures { IsOk result ↔ (self.now.has_failed_sync ≡ false) }
+    {
+        if self.has_failed_sync {
+            let error = Error::other("an earlier sync of this disk failed");
+            return Err(Trouble {
+                call: "change",
+                error,
+            });
+        }
+        Ok(())
+    }
+
+    fn try_len(&self, file: FileId) -> Result<Option<u64>, Trouble> {
+        let path = during("name", path_of(self.rt.alloc(), self.path.as_str(), file))?;
+        let found = unless_absent("stat", fs::metadata(&self.rt, path.as_str()))?;
+        Ok(found.map(|found| found.len()))
+    }
+
+    fn try_read(&self, file: FileId, at: u64, into: &mut [u8]) -> Result<usize, Trouble>
         ensures { IfOk result (λ count. count ≤ length into.new) }
     {
-        let path = path_of(self.rt.alloc(), self.path.as_str(), file)?;
-        let mut source = match File::open(&self.rt, path.as_str()) {
-            Ok(source) => source,
-            Err(error) if error.kind() == ErrorKind::NotFound => return Ok(0),
-            Err(error) => return Err(error),
+        let path = during("name", path_of(self.rt.alloc(), self.path.as_str(), file))?;
+        let opened = File::open(&self.rt, path.as_str());
+        let Some(mut source) = unless_absent("open", opened)? else {
+            return Ok(0);
         };
         if at >= END_OF_PLACES {
             return Ok(0);
         }
-        source.seek(SeekFrom::Start(at))?;
-        fill(&mut source, into)
+        during("seek", source.seek(SeekFrom::Start(at)))?;
+        during("read", fill(&mut source, into))
     }
 
-    fn try_write(&mut self, path: &str, file: FileId, bytes: &[u8]) -> io::Result<()>
-        ensures { self.new.faults ≡ self.old.faults }
+    fn try_write(&mut self, path: &str, file: FileId, bytes: &[u8]) -> Result<(), Trouble>
+        ensures same { self.new.faults ≡ self.old.faults }
+        ensures refused { self.old.has_failed_sync ≡ true → IsErr result }
     {
+        self.may_change()?;
         let kept = replaced(&self.rt, path, file, bytes)?;
         self.replaced = Some(kept);
         Ok(())
     }
 
-    fn try_append(&mut self, path: &str, file: FileId, bytes: &[u8]) -> io::Result<()>
-        ensures { self.new.faults ≡ self.old.faults }
+    fn try_append(&mut self, path: &str, file: FileId, bytes: &[u8]) -> Result<(), Trouble>
+        ensures same { self.new.faults ≡ self.old.faults }
+        ensures refused { self.old.has_failed_sync ≡ true → IsErr result }
     {
+        self.may_change()?;
         let mut kept = match self.appended.take() {
             Some(kept) if kept.is_of(file) => kept,
             _ => opened_to_append(&self.rt, path, file)?,
         };
-        kept.open.write_all(bytes)?;
+        during("append to", kept.open.write_all(bytes))?;
         self.appended = Some(kept);
         Ok(())
     }
 
     // After it a stop leaves the file and its name, or leaves it absent where it is absent.
-    fn try_sync(&mut self, file: FileId) -> io::Result<()>
-        ensures { self.new.faults ≡ self.old.faults }
+    fn try_sync(&mut self, file: FileId) -> Result<(), Trouble>
+        ensures same { self.new.faults ≡ self.old.faults }
+        ensures kept { self.new.has_failed_sync ≡ self.old.has_failed_sync }
+        ensures refused { self.old.has_failed_sync ≡ true → IsErr result }
     {
+        self.may_change()?;
         if let Some(kept) = &mut self.appended {
             if kept.is_of(file) {
-                kept.open.sync_all()?;
+                during("sync", kept.open.sync_all())?;
                 if !kept.is_named {
-                    self.folder.sync_all()?;
+                    during("sync the folder of", self.folder.sync_all())?;
                     kept.is_named = true;
                 }
                 return Ok(());
@@ -115,40 +144,52 @@ impl<R: Files + AllocGlobal + Clone + Drop> FolderDisk<R> {
         }
         if let Some(kept) = &self.replaced {
             if kept.is_of(file) {
-                kept.open.sync_all()?;
-                return self.folder.sync_all();
+                during("sync", kept.open.sync_all())?;
+                return during("sync the folder of", self.folder.sync_all());
             }
         }
         self.sync_by_name(file)
     }
 
-    fn sync_by_name(&self, file: FileId) -> io::Result<()> {
-        let path = path_of(self.rt.alloc(), self.path.as_str(), file)?;
-        match File::open(&self.rt, path.as_str()) {
-            Ok(target) => target.sync_all()?,
-            Err(error) if error.kind() == ErrorKind::NotFound => {}
-            Err(error) => return Err(error),
+    fn sync_by_name(&self, file: FileId) -> Result<(), Trouble> {
+        let path = during("name", path_of(self.rt.alloc(), self.path.as_str(), file))?;
+        let opened = File::open(&self.rt, path.as_str());
+        if let Some(target) = unless_absent("open", opened)? {
+            during("sync", target.sync_all())?;
         }
-        self.folder.sync_all()
+        during("sync the folder of", self.folder.sync_all())
     }
 
-    fn try_remove(&self, file: FileId) -> io::Result<()> {
-        let path = path_of(self.rt.alloc(), self.path.as_str(), file)?;
-        match remove_file(&self.rt, path.as_str()) {
-            Ok(()) => Ok(()),
-            Err(error) if error.kind() == ErrorKind::NotFound => Ok(()),
-            Err(error) => Err(error),
+    // A sync that fails is remembered.
+    fn sync_once(&mut self, file: FileId) -> Result<(), Trouble>
+        ensures same { self.new.faults ≡ self.old.faults }
+        ensures remembered { IsErr result → self.new.has_failed_sync ≡ true }
+        ensures refused { self.old.has_failed_sync ≡ true → IsErr result }
+    {
+        let answer = self.try_sync(file);
+        if answer.is_err() {
+            self.has_failed_sync = true;
         }
+        answer
     }
 
-    fn try_list(&mut self, after: Option<FileId>) -> io::Result<Option<FileId>>
+    fn try_remove(&self, file: FileId) -> Result<(), Trouble>
+        ensures refused { self.now.has_failed_sync ≡ true → IsErr result }
+    {
+        self.may_change()?;
+        let path = during("name", path_of(self.rt.alloc(), self.path.as_str(), file))?;
+        unless_absent("remove", remove_file(&self.rt, path.as_str()))?;
+        Ok(())
+    }
+
+    fn try_list(&mut self, after: Option<FileId>) -> Result<Option<FileId>, Trouble>
         ensures past { IfOk result (λ next. IfSome next (IsPast after)) }
         ensures same { self.new.faults ≡ self.old.faults }
     {
         if let Some(names) = &self.names {
             return Ok(names.next(after));
         }
-        let names = Names::scanned(&self.rt, self.path.as_str())?;
+        let names = during("list", Names::scanned(&self.rt, self.path.as_str()))?;
         let next = names.next(after);
         self.names = Some(names);
         Ok(next)
@@ -180,7 +221,7 @@ impl<R: Files + AllocGlobal + Clone + Drop> FolderDisk<R> {
     }
 }
 
-impl<R: Files + AllocGlobal + Clone + Drop> Disk for FolderDisk<R> {
+impl<R: Files<File = File> + Eprint + AllocGlobal + Clone + Drop> Disk for FolderDisk<R> {
     ghost use Rattle.std.specs.Prelude.{false, refl};
     ghost use Rattle.gt_real.specs.Untold.{untold};
 
@@ -202,11 +243,13 @@ impl<R: Files + AllocGlobal + Clone + Drop> Disk for FolderDisk<R> {
 
     fn len(&mut self, file: FileId) -> Result<Option<u64>, Failed> {
         let answer = self.try_len(file);
+        tell_of_file(&self.rt, self.path.as_str(), file, &answer);
         counted(&mut self.faults, answer)
     }
 
     fn read_at(&mut self, file: FileId, at: u64, into: &mut [u8]) -> Result<usize, Failed> {
         let answer = self.try_read(file, at, into);
+        tell_of_file(&self.rt, self.path.as_str(), file, &answer);
         counted(&mut self.faults, answer)
     }
 
@@ -215,6 +258,7 @@ impl<R: Files + AllocGlobal + Clone + Drop> Disk for FolderDisk<R> {
             return Err(DiskError::Memory);
         };
         let answer = self.try_write(path.as_str(), file, bytes);
+        tell_of_file(&self.rt, self.path.as_str(), file, &answer);
         self.note_there(file, answer.is_ok());
         counted_change(&mut self.faults, answer)
     }
@@ -224,23 +268,27 @@ impl<R: Files + AllocGlobal + Clone + Drop> Disk for FolderDisk<R> {
             return Err(DiskError::Memory);
         };
         let answer = self.try_append(path.as_str(), file, bytes);
+        tell_of_file(&self.rt, self.path.as_str(), file, &answer);
         self.note_there(file, answer.is_ok());
         counted_change(&mut self.faults, answer)
     }
 
     fn sync(&mut self, file: FileId) -> Result<(), Failed> {
-        let answer = self.try_sync(file);
+        let answer = self.sync_once(file);
+        tell_of_file(&self.rt, self.path.as_str(), file, &answer);
         counted(&mut self.faults, answer)
     }
 
     fn remove(&mut self, file: FileId) -> Result<(), Failed> {
         let answer = self.try_remove(file);
+        tell_of_file(&self.rt, self.path.as_str(), file, &answer);
         self.note_absent(file, answer.is_ok());
         counted(&mut self.faults, answer)
     }
 
     fn list(&mut self, after: Option<FileId>) -> Result<Option<FileId>, Failed> {
         let answer = self.try_list(after);
+        tell(&self.rt, self.path.as_str(), &answer);
         counted(&mut self.faults, answer)
     }
 }

@@ -1,24 +1,25 @@
-ghost use Rattle.std.specs.Prelude.{◌≡◌, ◌≢◌, ℕ, false, IfOk, IfErr};
+ghost use Rattle.std.specs.Prelude.{◌≡◌, ◌≢◌, ◌++◌, ◌∷◌, [], ◌<◌, ◌+◌, ℕ, false, IfOk, IfErr};
 
 use crate::counting::count_fault;
 use crate::folder_disk::FolderDisk;
 use crate::making::make_folder;
-use crate::place::{ALL_HERE, DISKS, Place};
+use crate::place::{ALL_HERE, DISKS, Place, folder_of};
+use crate::trouble::{during, tell};
 use gt_disk::{Disk, Failed};
 use gt_outside::Host;
-use std::io;
+use std::fs::File;
 use std::rt::Files;
 
 /// The disks 0 to 8 as folders `0` to `8` of one folder. It tells nothing of what stands in them.
 #[derive(Drop)]
-pub struct FolderHost<R: Files + AllocGlobal + Clone + Drop> {
+pub struct FolderHost<R: Files<File = File> + Eprint + AllocGlobal + Clone + Drop> {
     rt: R,
     path: String,
     places: [Place; DISKS],
     faults: u64,
 }
 
-impl<R: Files + AllocGlobal + Clone + Drop> FolderHost<R> {
+impl<R: Files<File = File> + Eprint + AllocGlobal + Clone + Drop> FolderHost<R> {
     /// A host of the disks in the folder of this path. Nothing is opened or made before the first `take`.
     pub fn new(rt: R, path: String) -> FolderHost<R>
         ensures here { (n : ℕ) → ⟦<FolderHost<R> as Host>⟧.is_out result n ≡ false }
@@ -34,18 +35,24 @@ impl<R: Files + AllocGlobal + Clone + Drop> FolderHost<R> {
     }
 
     // Opens the folder of a disk, and makes it and the folder of the disks where they are absent.
-    fn opened(&self, number: u8, faults: u64) -> io::Result<FolderDisk<R>>
+    fn opened(&self, number: u8, faults: u64) -> Result<FolderDisk<R>, Failed>
+        requires { number < 9 }
         ensures { IfOk result (λ disk. ⟦<FolderDisk<R> as Disk>⟧.fault_count disk ≡ faults) }
     {
-        let rt = self.rt.clone()?;
         let path = self.path.as_str();
-        make_folder(&rt, path)?;
-        let path = format!(in rt.alloc(); "{path}/{number}")?;
-        FolderDisk::open_counted(rt, path, faults)
+        let made = make_folder(&self.rt, path);
+        tell(&self.rt, path, &made);
+        let named = during("name the disk of", folder_of(self.rt.alloc(), path, number));
+        tell(&self.rt, path, &named);
+        let shared: Result<R, _> = self.rt.clone();
+        match (made, named, shared) {
+            (Ok(()), Ok(path), Ok(rt)) => FolderDisk::open_counted(rt, path, faults),
+            _ => Err(Failed),
+        }
     }
 }
 
-impl<R: Files + AllocGlobal + Clone + Drop> Host for FolderHost<R> {
+impl<R: Files<File = File> + Eprint + AllocGlobal + Clone + Drop> Host for FolderHost<R> {
     type D = FolderDisk<R>;
 
     ghost use Rattle.gt_real.specs.Places.{is_out_at, faults_at};

@@ -1,6 +1,6 @@
+use crate::trouble::{Trouble, during};
 use gt_disk::FileId;
 use std::fs::{File, OpenOptions};
-use std::io;
 use std::io::Write;
 use std::rt::Files;
 
@@ -25,9 +25,9 @@ pub(crate) fn replaced<R: Files>(
     path: &str,
     file: FileId,
     bytes: &[u8],
-) -> io::Result<Kept<R::File>> {
-    let mut open = File::create(rt, path)?;
-    open.write_all(bytes)?;
+) -> Result<Kept<R::File>, Trouble> {
+    let mut open = during("create", File::create(rt, path))?;
+    during("write", open.write_all(bytes))?;
     Ok(Kept {
         file,
         open,
@@ -40,10 +40,10 @@ pub(crate) fn opened_to_append<R: Files>(
     rt: &R,
     path: &str,
     file: FileId,
-) -> io::Result<Kept<R::File>> {
+) -> Result<Kept<R::File>, Trouble> {
     let mut options = OpenOptions::new();
     options.append(true).create(true);
-    let open = options.open(rt, path)?;
+    let open = during("open", options.open(rt, path))?;
     Ok(Kept {
         file,
         open,

@@ -13,6 +13,7 @@ mod naming;
 mod place;
 mod standard_input;
 mod standard_output;
+mod trouble;
 
 pub use folder_disk::FolderDisk;
 pub use folder_host::FolderHost;

@@ -1,11 +1,12 @@
 // The name of a file in its folder: its kind and its number in decimal, as `3-17`.
 use gt_disk::FileId;
-use std::alloc::{AllocError, Global};
+use std::alloc::Global;
+use std::io;
 
 /// The path of a file in this folder.
-pub(crate) fn path_of(alloc: Global, folder: &str, file: FileId) -> Result<String, AllocError> {
+pub(crate) fn path_of(alloc: Global, folder: &str, file: FileId) -> io::Result<String> {
     let FileId { kind, number } = file;
-    format!(in alloc; "{folder}/{kind}-{number}")
+    Ok(format!(in alloc; "{folder}/{kind}-{number}")?)
 }
 
 /// The file of this name. Every name but those that `path_of` gives has none.

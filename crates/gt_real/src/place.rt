@@ -1,3 +1,8 @@
+ghost use Rattle.std.specs.Prelude.{◌≡◌, ◌++◌, ◌∷◌, [], ◌<◌, ◌+◌, IfOk};
+
+use std::alloc::Global;
+use std::io;
+
 /// What a host of folders knows of a disk: whether it is out, and its count of faults when it was here last.
 #[derive(Clone, Copy)]
 pub(crate) struct Place {
@@ -13,3 +18,14 @@ pub(crate) const ALL_HERE: [Place; DISKS] = [Place {
     is_out: false,
     faults: 0,
 }; DISKS];
+
+/// The folder of the disk of this number, in this folder: two disks have two folders.
+pub(crate) fn folder_of(alloc: Global, folder: &str, number: u8) -> io::Result<String>
+    requires { number < 9 }
+    ensures { IfOk result (λ path. path ≡ folder.now ++ (47 ∷ (48 + number) ∷ [])) }
+{
+    let mut path = String::from_str(alloc, folder)?;
+    path.push('/')?;
+    path.push(char::from(b'0' + number))?;
+    Ok(path)
+}

@@ -3,7 +3,7 @@ use gt_disk::{Disk, DiskError, Failed, FileId};
 use gt_outside::{Host, Sink, Source, write_whole};
 use std::process::Abort;
 use std::test::Fail;
-use std::{env, fs, process};
+use std::{env, fs, io, process};
 
 fn file(kind: u8, number: u64) -> FileId {
     FileId { kind, number }
@@ -34,7 +34,7 @@ const LAST: FileId = FileId {
 #[test]
 fn a_folder_is_a_disk(rt: HostRuntime) -> Result<(), Fail> {
     let path = fresh(&rt, "gt_real_disk")?;
-    let mut disk = FolderDisk::open(rt.clone()?, path.clone()?)?;
+    let mut disk = opened(&rt, &path)?;
     an_absent_file(&rt, &mut disk);
     a_whole_file(&rt, &mut disk);
     places_in_a_file(&rt, &mut disk);
@@ -43,11 +43,20 @@ fn a_folder_is_a_disk(rt: HostRuntime) -> Result<(), Fail> {
     stray_names(&rt, path.as_str())?;
     the_files_in_order(&rt, &mut disk);
     the_listing_after_changes(&rt, &mut disk);
-    let mut again = FolderDisk::open(rt.clone()?, path.clone()?)?;
+    assert!(rt; FolderDisk::open(rt.clone()?, path.clone()?).is_err());
+    drop(disk);
+    let mut again = opened(&rt, &path)?;
     assert_eq!(rt; again.list(None), Ok(Some(file(0, 7))));
     fs::remove_dir_all(&rt, path.as_str())?;
-    a_folder_that_is_gone(&rt, &mut disk);
+    a_folder_that_is_gone(&rt, &mut again);
     Ok(())
+}
+
+fn opened(rt: &HostRuntime, path: &String) -> Result<FolderDisk<HostRuntime>, Fail> {
+    match FolderDisk::open(rt.clone()?, path.clone()?) {
+        Ok(disk) => Ok(disk),
+        Err(Failed) => Err(io::Error::other("the folder wasn't opened").into()),
+    }
 }
 
 fn an_absent_file(rt: &impl Abort, disk: &mut impl Disk) {
@@ -166,13 +175,21 @@ fn a_folder_of_disks(rt: HostRuntime) -> Result<(), Fail> {
     }
     let written = format!(in rt.alloc(); "{}/3/1-1", path.as_str())?;
     assert_eq!(rt; fs::read_to_string(&rt, written.as_str())?.as_str(), "x");
+    match host.take(8) {
+        Ok(mut disk) => {
+            assert_eq!(rt; disk.len(file(1, 1)), Ok(None));
+            assert!(rt; host.take(8).is_err());
+            host.give(8, disk);
+        }
+        Err(Failed) => assert!(rt; false),
+    }
     fs::remove_dir_all(&rt, path.as_str())?;
     Ok(())
 }
 
 #[test]
 fn standard_streams(rt: HostRuntime) -> Result<(), Fail> {
-    let mut input = StandardInput::new(&rt);
+    let mut input = StandardInput::new(rt.clone()?);
     assert_eq!(rt; input.read(&mut []), Ok(0));
     let mut output = StandardOutput::new(rt.clone()?);
     assert_eq!(rt;
