@@ -1,35 +1,10 @@
 //! The program: a script of requests over folders, one answer line a request.
 #![tactic(auto)]
 
-mod answering;
-#[cfg(test)]
-mod damage_tests;
-mod doing;
-#[cfg(test)]
-mod doubt_tests;
-#[cfg(test)]
-mod fault_tests;
-mod local;
-#[cfg(test)]
-mod outside_tests;
-mod playing;
-#[cfg(test)]
-mod row_tests;
-mod script;
-mod status;
-#[cfg(test)]
-mod stop_tests;
-#[cfg(test)]
-mod tests;
-mod top;
-mod words;
-mod working;
-
+use gt_prog::{Status, gitstore_plain};
 use gt_real::{FolderHost, StandardInput, StandardOutput};
-use status::Status;
 use std::process::ExitCode;
 use std::{env, io};
-use top::gitstore_plain;
 
 /// The first word is the folder of the disks, `.` without any word; the others say what to do.
 fn main(rt: HostRuntime) -> ExitCode {
