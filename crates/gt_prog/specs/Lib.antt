@@ -5,3 +5,4 @@ pub mod Replay
 pub mod Script
 pub mod Statuses
 pub mod Words
+pub mod Exits

@@ -1,3 +1,6 @@
+ghost use Rattle.std.specs.Prelude.{◌≡◌, IfOk, string_bytes};
+ghost use Rattle.gt_prog.specs.Exits.{exit_code, exit_text};
+
 use gt_disk::FileId;
 use std::alloc::{AllocError, Global};
 
@@ -26,7 +29,9 @@ pub enum Status {
 
 impl Status {
     /// The exit status of the process.
-    pub fn code(&self) -> u8 {
+    pub fn code(&self) -> u8
+        ensures { result ≡ exit_code self.now }
+    {
         match self {
             Status::Done => 0,
             Status::Usage => 2,
@@ -41,7 +46,9 @@ impl Status {
     }
 
     /// The line on standard error; empty where there is none.
-    pub fn text(&self, alloc: Global) -> Result<String, AllocError> {
+    pub fn text(&self, alloc: Global) -> Result<String, AllocError>
+        ensures { IfOk result (λ text. string_bytes text ≡ exit_text self.now) }
+    {
         match self {
             Status::Done => Ok(String::new(alloc)),
             Status::Usage => String::from_str(alloc, "gitstore: usage\n"),

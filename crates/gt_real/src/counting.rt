@@ -30,10 +30,7 @@ pub(crate) fn counted<T>(faults: &mut u64, answer: Result<T, Trouble>) -> Result
 }
 
 /// Counts an error of a call that changes a file.
-pub(crate) fn counted_change(
-    faults: &mut u64,
-    answer: Result<(), Trouble>,
-) -> Result<(), DiskError>
+pub(crate) fn counted_change(faults: &mut u64, answer: Result<(), Trouble>) -> Result<(), DiskError>
     ensures same { MatchResult answer (λ value. result ≡ Ok value) (λ _. result ≡ Err DiskFailed) }
     ensures cause { HasDiskCause faults.old faults.new result }
 {

@@ -1,4 +1,4 @@
-ghost use Rattle.std.specs.Prelude.{◌≡◌, ◌≤◌, IfOk, IfSome, IsOk, IsErr, length, true, false};
+ghost use Rattle.std.specs.Prelude.{◌≡◌, ◌≤◌, ◌↔◌, IfOk, IfSome, IsOk, IsErr, length, true, false};
 ghost use Rattle.gt_disk.specs.Files.{IsPast};
 
 use crate::counting::{counted, counted_change};

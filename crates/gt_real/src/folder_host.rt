@@ -1,4 +1,4 @@
-ghost use Rattle.std.specs.Prelude.{◌≡◌, ◌≢◌, ◌++◌, ◌∷◌, [], ◌<◌, ◌+◌, ℕ, false, IfOk, IfErr};
+ghost use Rattle.std.specs.Prelude.{◌≡◌, ℕ, false, IfOk};
 
 use crate::counting::count_fault;
 use crate::folder_disk::FolderDisk;
@@ -36,7 +36,6 @@ impl<R: Files<File = File> + Eprint + AllocGlobal + Clone + Drop> FolderHost<R> 
 
     // Opens the folder of a disk, and makes it and the folder of the disks where they are absent.
     fn opened(&self, number: u8, faults: u64) -> Result<FolderDisk<R>, Failed>
-        requires { number < 9 }
         ensures { IfOk result (λ disk. ⟦<FolderDisk<R> as Disk>⟧.fault_count disk ≡ faults) }
     {
         let path = self.path.as_str();

@@ -1,4 +1,4 @@
-ghost use Rattle.std.specs.Prelude.{◌≡◌, ◌++◌, ◌∷◌, [], ◌<◌, ◌+◌, IfOk};
+ghost use Rattle.std.specs.Prelude.{◌≡◌, ◌++◌, IfOk, codes, decimal, string_bytes};
 
 use std::alloc::Global;
 use std::io;
@@ -19,13 +19,9 @@ pub(crate) const ALL_HERE: [Place; DISKS] = [Place {
     faults: 0,
 }; DISKS];
 
-/// The folder of the disk of this number, in this folder: two disks have two folders.
+/// The folder of the disk of this number in this folder. Different disks have different folders.
 pub(crate) fn folder_of(alloc: Global, folder: &str, number: u8) -> io::Result<String>
-    requires { number < 9 }
-    ensures { IfOk result (λ path. path ≡ folder.now ++ (47 ∷ (48 + number) ∷ [])) }
+    ensures { IfOk result (λ path. string_bytes path ≡ folder.now ++ (codes "/" ++ decimal number)) }
 {
-    let mut path = String::from_str(alloc, folder)?;
-    path.push('/')?;
-    path.push(char::from(b'0' + number))?;
-    Ok(path)
+    Ok(format!(in alloc; "{folder}/{number}")?)
 }

@@ -1,7 +1,7 @@
 // A call of the system that failed, for whoever runs the program: the call, the file and the system's own words.
 ghost use Rattle.std.specs.Prelude.{◌≡◌, ◌≢◌, MatchResult, Ok, Err, Some, None};
 ghost use Rattle.std.specs.IoError.{error_kind};
-ghost use Rattle.std.specs.declared.io.kind.ErrorKind.TheVariants.{NotFound};
+ghost use Rattle.std.specs.declared.io.ErrorKind.TheVariants.{NotFound};
 
 use gt_disk::FileId;
 use std::io;
@@ -49,7 +49,10 @@ pub(crate) fn tell_of_file<T>(
 ) {
     if let Err(trouble) = answer {
         let FileId { kind, number } = file;
-        let _ = eprintln!(rt; "gitstore: {} {folder}/{kind}-{number}: {}", trouble.call, trouble.error);
+        let _ = eprintln!(rt;
+            "gitstore: {} {folder}/{kind}-{number}: {}",
+            trouble.call, trouble.error
+        );
     }
 }
 
