@@ -63,7 +63,7 @@ fn check_commit_at(
 fn refused(error: VerifyError) -> Checked
     ensures { (limits : Limits) (s : State) (path : List ℕ) (staged : Staged) → IsVerdict (verdict (content s.log) path staged) (Err error) → IsChecked limits s path staged result }
 {
-    if error == VerifyError::Memory {
+    if matches!(error, VerifyError::Memory) {
         return Checked::Stays(Ended::Memory);
     }
     match Reply::refused(Refusal::from(error)) {

@@ -1,5 +1,5 @@
 // A call of the system that failed, for whoever runs the program: the call, the file and the system's own words.
-ghost use Rattle.std.specs.Prelude.{◌≡◌, ◌≢◌, MatchResult, Ok, Err, Some, None};
+ghost use Rattle.std.specs.Prelude.{◌≡◌, ◌≢◌, MatchResult, IsErrAnd, Ok, Err, Some, None};
 ghost use Rattle.std.specs.IoError.{error_kind};
 ghost use Rattle.std.specs.declared.io.ErrorKind.TheVariants.{NotFound};
 
@@ -16,7 +16,7 @@ pub(crate) struct Trouble {
 
 /// What the call of this name answered.
 pub(crate) fn during<T>(call: &'static str, answer: io::Result<T>) -> Result<T, Trouble>
-    ensures { MatchResult answer (λ value. result ≡ Ok value) (λ error. result ≡ Err (record { call = call; error = error })) }
+    ensures { MatchResult answer (λ value. result ≡ Ok value) (λ error. IsErrAnd result (λ trouble. trouble.error ≡ error)) }
 {
     match answer {
         Ok(value) => Ok(value),
@@ -31,7 +31,7 @@ pub(crate) fn unless_absent<T>(
 ) -> Result<Option<T>, Trouble>
     ensures there { (value : T) → answer ≡ Ok value → result ≡ Ok (Some value) }
     ensures absent { (error : _) → answer ≡ Err error → error_kind error ≡ NotFound → result ≡ Ok None }
-    ensures failed { (error : _) → answer ≡ Err error → error_kind error ≢ NotFound → result ≡ Err (record { call = call; error = error }) }
+    ensures failed { (error : _) → answer ≡ Err error → error_kind error ≢ NotFound → IsErrAnd result (λ trouble. trouble.error ≡ error) }
 {
     match answer {
         Ok(value) => Ok(Some(value)),
