@@ -12,7 +12,7 @@ use std::alloc::Global;
 
 impl PlainContent {
     /// Makes the change of an entry. Where memory runs out, nothing has changed.
-    #[tactic(auto, unfolding(crate::specs::Contents::changed))]
+    #[tactic(auto, unfolding(gt_model::specs::Contents::changed))]
     pub fn apply(&mut self, alloc: Global, entry: &Entry) -> Result<(), NoMemory>
         ensures ok { OnOk result (self.new ≡ after self.old entry.now) }
         ensures err { OnErr result (self.new ≡ self.old) }
