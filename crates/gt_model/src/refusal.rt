@@ -11,7 +11,7 @@ pub enum Refusal {
     RepositoryExists,
     /// The content at the front lacks the path of the transaction.
     RepositoryGone,
-    /// What was seen lies behind the front.
+    /// The client has seen a later position than the front.
     Behind {
         seen: u64,
         front: u64,

@@ -28,6 +28,7 @@ pub fn paths_in_pool(
     ensures ordered { tree.IsOrdered key_cmp repos.now }
     ensures paths { IfOk result (λ paths. paths ≡ filter (λ q. is_this (pool_in (head_in_slot (tree.get key_cmp repos.now q) at)) pool.now) (tree.keys repos.now)) }
 {
+    // for the prover
     let _ = repos.len();
     match members.get(pool) {
         None => Ok(ListOf::new(alloc)),
@@ -46,6 +47,7 @@ pub fn least_in_pool<'a>(
     ensures ordered { tree.IsOrdered key_cmp repos.now }
     ensures least { option_copied result ≡ find (λ q. is_this (pool_in (head_in_slot (tree.get key_cmp repos.now q) at)) pool.now) (tree.keys repos.now) }
 {
+    // for the prover
     let _ = repos.len();
     match members.get(pool) {
         None => None,

@@ -23,8 +23,8 @@ use gt_stage::{Stage, law_stage};
 use std::alloc::Global;
 
 impl<D: Disk + Drop> Partition<D> {
-    /// Begins a transaction that reads the front, and gives its pin. `Behind` comes exactly where what was seen lies behind
-    /// the front, then `PinsFull` exactly where as many are live as the limit allows, then `NoRepository` exactly where the
+    /// Begins a transaction that reads the front, and gives its pin. `Behind` comes exactly where what was seen is later
+    /// than the front, then `PinsFull` exactly where as many are live as the limit allows, then `NoRepository` exactly where the
     /// content at the front lacks the path; `DeviceFault` only of a fault of the disk.
     pub fn begin(
         &mut self,

@@ -1,4 +1,4 @@
-//! One session of a script: what its lines come to, over a partition.
+//! The sessions of a script: what their lines come to, over any partition.
 #![tactic(auto)]
 
 mod laws;

@@ -101,6 +101,7 @@ impl Page {
         ensures ok { OnOk result (self.new ≡ insert self.old at slot) }
         ensures err { OnErr result (self.new ≡ self.old) }
     {
+        // for the prover
         let _slots = self.slots.as_slice();
         match self.slots.insert(at, slot) {
             Ok(()) => Ok(()),
@@ -113,6 +114,7 @@ impl Page {
         requires { at < length self.old }
         ensures { self.new ≡ remove self.old at }
     {
+        // for the prover
         let _slots = self.slots.as_slice();
         let _slot = self.slots.remove(at);
     }
@@ -123,6 +125,7 @@ impl Page {
         ensures ok { IfOk result (λ p. (self.new ≡ take at self.old) × (p ≡ drop at self.old)) }
         ensures err { OnErr result (self.new ≡ self.old) }
     {
+        // for the prover
         let _slots = self.slots.as_slice();
         match self.slots.split_off(at) {
             Ok(slots) => Ok(Page { slots }),

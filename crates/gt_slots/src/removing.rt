@@ -48,6 +48,7 @@ fn remove_page(pages: &mut Vec<Page>, at: usize)
     requires { at < length pages.old.items }
     ensures { pages.new.items ≡ remove pages.old.items at }
 {
+    // for the prover
     let _pages = pages.as_slice();
     let _page = pages.remove(at);
 }

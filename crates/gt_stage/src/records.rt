@@ -59,6 +59,7 @@ impl StagedRecords {
         ensures distinct { IsEachOnce (map (λ a. a.name) self.now) }
         ensures named { All (λ a. sha1 a.whole ≡ a.name) self.now }
     {
+        // for the prover
         let _ = self.size;
         self.table.len()
     }

@@ -204,7 +204,7 @@ impl Stage {
         self.records.to_list(alloc)
     }
 
-    /// Does nothing.
+    /// Does nothing when it runs: the prover reads the invariants of both lists here.
     pub(crate) fn open(&self)
         ensures { IsClean self.now.staged }
     {
