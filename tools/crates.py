@@ -32,4 +32,4 @@ def in_order(wanted, crates):
 
 def height(name, crates):
     """How many crates the longest chain from this crate upwards has."""
-    return 1 + max([height(it, crates) for it in crates if name in crates[it]] or [0])
+    return 1 + max((height(it, crates) for it in crates if name in crates[it]), default=0)
