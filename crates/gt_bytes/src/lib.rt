@@ -22,6 +22,3 @@ pub use list::{put_list, read_list};
 pub use put::{put_name, put_text, put_u8, put_u16, put_u32, put_u64};
 pub use short::Short;
 pub use word::read_word;
-
-#[cfg(test)]
-mod tests;

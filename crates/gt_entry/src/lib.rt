@@ -19,6 +19,3 @@ pub use laws::{
     law_entries_are_read_again, law_entries_are_read_exactly, law_no_entry_begins_another,
 };
 pub use version::Version;
-
-#[cfg(test)]
-mod tests;

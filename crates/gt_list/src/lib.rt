@@ -8,6 +8,3 @@ mod roomy;
 pub use list::ListOf;
 pub use memory::NoMemory;
 pub use roomy::Roomy;
-
-#[cfg(test)]
-mod tests;

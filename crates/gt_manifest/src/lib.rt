@@ -16,6 +16,3 @@ pub use error::ManifestError;
 pub use laws::law_no_manifest_begins_another;
 pub use manifest::{Loose, LooseList, Manifest, Numbers, RepoFiles, RepoList};
 pub use version::Version;
-
-#[cfg(test)]
-mod tests;

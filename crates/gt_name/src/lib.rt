@@ -16,6 +16,3 @@ pub use lists::{Names, Names2, Paths};
 pub use name::Name;
 pub use path::RepoPath;
 pub use reference::RefName;
-
-#[cfg(test)]
-mod tests;

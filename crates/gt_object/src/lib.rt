@@ -19,6 +19,3 @@ pub use laws::{
     tags_are_lines, trees_are_entries,
 };
 pub use record::Record;
-
-#[cfg(test)]
-mod tests;

@@ -14,6 +14,3 @@ pub use error::PackError;
 pub use index::PackIndex;
 pub use laws::{no_pack_begins_another, records_are_found, records_stand};
 pub use placed::Placed;
-
-#[cfg(test)]
-mod tests;

@@ -17,6 +17,3 @@ pub use loose::{read_loose, write_loose};
 pub use packed_ref::{PackedList, PackedRef};
 pub use reading::read_packed;
 pub use writing::write_packed;
-
-#[cfg(test)]
-mod tests;

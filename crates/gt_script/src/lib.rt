@@ -26,10 +26,3 @@ pub use laws::{answers_print_differently, numbers_are_their_digits};
 pub use parse::parse_line;
 pub use print::print_answer;
 pub use request::Request;
-
-#[cfg(test)]
-mod answer_tests;
-#[cfg(test)]
-mod bad_line_tests;
-#[cfg(test)]
-mod line_tests;
