@@ -2,3 +2,4 @@ pub mod WalkLemmas
 pub mod PutLemmas
 pub mod FieldLemmas
 pub mod ManifestLemmas
+pub mod SecondLemmas

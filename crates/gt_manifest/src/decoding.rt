@@ -2,6 +2,7 @@ ghost use Rattle.std.specs.Prelude.{◌≡◌, IfOk, Ok};
 ghost use Rattle.gt_manifest.specs.Spelling.{manifest};
 ghost use Rattle.gt_manifest.specs.Answers.{Reads};
 ghost use Rattle.gt_manifest.specs.declared.version.Version.{Version};
+ghost use Rattle.gt_manifest.specs.declared.version.Version.TheVariants.{Second};
 ghost use Rattle.gt_manifest.specs.declared.manifest.Manifest.{Manifest};
 ghost use Rattle.gt_manifest.specs.Whole.{manifest_of, Fits, IsSpelledBy};
 
@@ -29,6 +30,8 @@ impl Manifest {
     pub fn decode(alloc: Global, bytes: &[u8]) -> Result<Manifest, ManifestError>
         // What is read is spelled so.
         ensures found { IfOk result (IsSpelledBy bytes.now) }
+        // It may be written.
+        ensures fits { IfOk result (Fits Second) }
         // What is spelled so is read, unless memory runs out.
         ensures only { (v : Version) (m : Manifest) → Fits v m → bytes.now ≡ manifest v m → Reads result (Ok m) }
         // Else the first field that may not stand there.

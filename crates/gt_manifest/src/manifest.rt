@@ -2,7 +2,7 @@ use gt_list::ListOf;
 use gt_name::{RefName, RepoPath};
 
 /// A reference with a file of its own.
-#[derive(Debug, Drop)]
+#[derive(Drop)]
 pub struct Loose {
     /// The reference.
     pub name: RefName,
@@ -17,7 +17,7 @@ pub type LooseList = ListOf<Loose>;
 pub type Numbers = ListOf<u64>;
 
 /// The files of one repository.
-#[derive(Debug, Drop)]
+#[derive(Drop)]
 pub struct RepoFiles {
     /// The repository.
     pub path: RepoPath,
@@ -41,7 +41,7 @@ pub struct RepoFiles {
 pub type RepoList = ListOf<RepoFiles>;
 
 /// Which files hold the content of a partition at a position of its log.
-#[derive(Debug, Drop)]
+#[derive(Drop)]
 pub struct Manifest {
     /// The number of this manifest.
     pub epoch: u64,

@@ -14,7 +14,7 @@ use std::alloc::Global;
 use std::marker::Model;
 
 /// Where the records of a pack stand, in order of their names. A contract sees it as that list.
-#[derive(Debug, Drop)]
+#[derive(Drop)]
 pub struct PackIndex {
     items: ListOf<Placed>,
 }

@@ -3,3 +3,4 @@ pub mod PartsLemmas
 pub mod ListLemmas
 pub mod LineLemmas
 pub mod ReadBack
+pub mod ValueLemmas

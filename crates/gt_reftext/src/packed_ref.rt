@@ -2,7 +2,7 @@ use gt_list::ListOf;
 use gt_name::{Name, RefName};
 
 /// A reference as a packed file has it.
-#[derive(Debug, Drop)]
+#[derive(Drop)]
 pub struct PackedRef {
     /// The reference.
     pub name: RefName,

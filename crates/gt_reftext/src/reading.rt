@@ -1,4 +1,6 @@
-ghost use Rattle.std.specs.Prelude.{◌≡◌, [], IfOk};
+ghost use Rattle.std.specs.Prelude.{◌≡◌, [], IfOk, not};
+ghost use Rattle.std.specs.List.{AllPass};
+ghost use Rattle.gt_reftext.specs.Lines.{is_zero};
 ghost use Rattle.gt_reftext.specs.Packed.{read_from, packed_of, Ascends};
 ghost use Rattle.gt_reftext.specs.Answers.{Gives, GivesSofar};
 
@@ -25,6 +27,15 @@ fn read_lines(alloc: Global, text: &[u8]) -> Result<Sofar, RefTextError>
     Ok(sofar)
 }
 
+fn read_list(alloc: Global, bytes: &[u8]) -> Result<PackedList, RefTextError>
+    ensures exact { Gives result (packed_of bytes.now) }
+    ensures ascending { IfOk result Ascends }
+{
+    let sofar = read_lines(alloc, bytes)?;
+    let list = whole(alloc, sofar)?;
+    Ok(list)
+}
+
 /// Reads a packed file: lines that each end with a line feed. A first line that begins with `#` is passed over, whatever
 /// it says. Each other line is `<40 hex> SP <name>`, after which one line `^<40 hex>` may have the peeled name. All hex
 /// digits are in lower case. The lines may stand in any order; the list ascends by name. An empty file is the empty list.
@@ -34,9 +45,9 @@ fn read_lines(alloc: Global, text: &[u8]) -> Result<Sofar, RefTextError>
 pub fn read_packed(alloc: Global, bytes: &[u8]) -> Result<PackedList, RefTextError>
     // The list of the lines, or the first bad line.
     ensures exact { Gives result (packed_of bytes.now) }
+    // It may be written.
     ensures ascending { IfOk result Ascends }
+    ensures no_zero { IfOk result (AllPass (λ r. not (is_zero r.value))) }
 {
-    let sofar = read_lines(alloc, bytes)?;
-    let list = whole(alloc, sofar)?;
-    Ok(list)
+    read_list(alloc, bytes)
 }

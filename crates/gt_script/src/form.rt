@@ -3,7 +3,7 @@ use gt_name::Name;
 use gt_object::Kind;
 
 /// What a line asks for. Paths, references' names and prefixes are any words: they are checked when the line is done.
-#[derive(Debug, Drop, PartialEq)]
+#[derive(Debug, Drop)]
 pub enum Form {
     /// A new repository, in the partition of another one if that is named.
     Create {

@@ -1,7 +1,7 @@
 use crate::Form;
 
 /// What a line asks for, and in which session, 1 to 128.
-#[derive(Debug, Drop, PartialEq)]
+#[derive(Debug, Drop)]
 pub struct Request {
     pub session: u8,
     pub form: Form,
