@@ -18,8 +18,9 @@ def spelled(byte, short, word, long, name, value):
 
 
 def wanted(byte, short, word, long, name, value):
+    end = len(b"".join(spelled(byte, short, word, long, name, value)))
     value = value.hex() if b"\xff" in value else value.decode()
-    return f"{byte} {short} {word} {long} {name.hex()} {value} true"
+    return f"{byte} {short} {word} {long} {name.hex()} {value} true {end}"
 
 
 def bad(at):

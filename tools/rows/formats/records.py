@@ -46,7 +46,7 @@ VECTORS = [
     ("tag", TAG, "a6f149c364142047c0f069d8c46df83e397ace6b", [COMMIT_NAME]),
 ]
 
-A, B, C = b"a" * 20, b"b" * 20, b"c" * 20
+A, B, C, D, E = (letter * 20 for letter in (b"a", b"b", b"c", b"d", b"e"))
 TREE_LINE = COMMIT_LINE.decode()
 OBJECT_LINE = f"object {TREE_NAME}\n".encode()
 
@@ -81,6 +81,7 @@ GOOD_CONTENTS = [
     ("tree", b"0000001 a\0" + A, [A.hex()]),
     # A submodule with a leading zero, a mode that isn't one, and the greater name first.
     ("tree", b"0160000 a\0" + A + b"1600000 b\0" + C + b"7 b\0" + B, [C.hex(), B.hex()]),
+    ("tree", b"".join(b"7 f\0" + object for object in (A, B, C, A, D)) + b"160000 g\0" + E, [A.hex(), B.hex(), C.hex(), D.hex()]),
     ("commit", COMMIT_LINE, [TREE_NAME]),
     ("commit", COMMIT_LINE + b"parent", [TREE_NAME]),
     ("commit", COMMIT_LINE + b"author\nparent 3\n", [TREE_NAME]),
