@@ -19,10 +19,11 @@ struct Fields<'a> {
     text: &'a [u8],
 }
 
-/// The fields, one behind the other, and then the word `GTF1`; and whether they are written again as they were.
+/// The fields, one behind the other, and then the word `GTF1`; whether they are written again as they were, and where the
+/// word ends.
 pub(crate) fn fields_row(rt: &impl Print, alloc: Global, bytes: &[u8]) -> io::Result<()> {
     match read_fields(bytes) {
-        Ok((fields, end)) => fields_line(rt, alloc, &fields, &bytes[..end]),
+        Ok((fields, end)) => fields_line(rt, alloc, &fields, bytes, end),
         Err(error) => println!(rt; "{error:?}"),
     }
 }
@@ -35,7 +36,7 @@ fn read_fields(bytes: &[u8]) -> Result<(Fields, usize), FieldError> {
     let (name, at) = get_name(bytes, at)?;
     let ((begin, end), at) = get_text(bytes, at)?;
     let text = &bytes[begin..end];
-    let ((), _) = read_word(b"GTF1", bytes, at)?;
+    let ((), end) = read_word(b"GTF1", bytes, at)?;
     Ok((
         Fields {
             byte,
@@ -45,7 +46,7 @@ fn read_fields(bytes: &[u8]) -> Result<(Fields, usize), FieldError> {
             name,
             text,
         },
-        at,
+        end,
     ))
 }
 
@@ -54,6 +55,7 @@ fn fields_line(
     alloc: Global,
     fields: &Fields,
     bytes: &[u8],
+    end: usize,
 ) -> io::Result<()> {
     let Fields {
         byte,
@@ -66,7 +68,7 @@ fn fields_line(
     print!(rt; "{byte} {short} {word} {long} {} {} ", Digits(name), Text(text))?;
     let mut out = Vec::new(alloc);
     match put_fields(&mut out, fields) {
-        Ok(()) => println!(rt; "{}", out.as_slice() == bytes),
+        Ok(()) => println!(rt; "{} {end}", bytes.starts_with(&out)),
         Err(NoMemory) => println!(rt; "no memory"),
     }
 }

@@ -22,9 +22,14 @@ pub(crate) fn path_row(rt: &impl Print, alloc: Global, text: &[u8]) -> io::Resul
 /// The bytes that digits spell, and the digits that they are spelled by.
 pub(crate) fn name_row(rt: &impl Print, text: &[u8]) -> io::Result<()> {
     match Name::parse(text) {
-        Ok(name) => println!(rt; "{} {}", Digits(&name.0), Text(&name.text())),
+        Ok(name) => name_line(rt, name),
         Err(error) => println!(rt; "{error:?}"),
     }
+}
+
+fn name_line(rt: &impl Print, name: Name) -> io::Result<()> {
+    let digits = name.text();
+    println!(rt; "{} {}", Digits(&name.0), Text(&digits))
 }
 
 pub(crate) fn digest_row(rt: &impl Print, bytes: &[u8]) -> io::Result<()> {

@@ -20,7 +20,10 @@ fn index_lines(rt: &impl Print, index: &PackIndex) -> io::Result<()> {
     println!(rt; "pack {:?} {:?}", index.find(&Name::ZERO), index.find(&Name([255; 20])))?;
     for i in 0..u32::MAX {
         match index.item(i) {
-            Some((name, place, len)) => println!(rt; "  {} {place} {len} {:?}", Digits(&name.0), index.find(&name))?,
+            Some((name, place, len)) => {
+                let found = index.find(&name);
+                println!(rt; "  {} {place} {len} {found:?}", Digits(&name.0))?;
+            }
             None => return Ok(()),
         }
     }

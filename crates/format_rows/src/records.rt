@@ -34,7 +34,9 @@ fn record_lines(
 
 /// The kind, the name, and how many bytes the record and its content have.
 fn record_line(rt: &impl Print, record: &Record) -> io::Result<()> {
-    println!(rt; "{:?} {} {} {}", record.kind(), Digits(&record.name().0), record.bytes().len(), record.content().len())
+    let name = record.name();
+    let len = record.bytes().len();
+    println!(rt; "{:?} {} {len} {}", record.kind(), Digits(&name.0), record.content().len())
 }
 
 fn needs_lines(rt: &impl Print, alloc: Global, record: &Record) -> io::Result<()> {

@@ -26,9 +26,15 @@ pub(crate) fn request_row(rt: &impl Print, alloc: Global, line: &[u8]) -> io::Re
 
 pub(crate) fn loose_row(rt: &impl Print, bytes: &[u8]) -> io::Result<()> {
     match read_loose(bytes) {
-        Ok(name) => println!(rt; "{} {}", Digits(&name.0), write_loose(name).as_slice() == bytes),
+        Ok(name) => loose_line(rt, name, bytes),
         Err(error) => println!(rt; "{error:?}"),
     }
+}
+
+/// The value, and whether it is written again as these bytes.
+fn loose_line(rt: &impl Print, name: Name, bytes: &[u8]) -> io::Result<()> {
+    let again = write_loose(name).as_slice() == bytes;
+    println!(rt; "{} {again}", Digits(&name.0))
 }
 
 pub(crate) fn packed_row(rt: &impl Print, alloc: Global, bytes: &[u8]) -> io::Result<()> {
