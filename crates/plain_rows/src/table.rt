@@ -1,0 +1,102 @@
+//! The table of a log.
+ghost use Rattle.std.specs.Prelude.{◌≡◌, ◌≤◌, length};
+ghost use Rattle.gt_table.specs.Built.{is_built};
+
+use crate::asked::Asked;
+use crate::reading::{name_of, ref_of};
+use crate::shown::{put, put_list, put_path, put_place, put_value};
+use gt_model::{Change, Entry};
+use gt_table::Table;
+use std::alloc::{AllocError, Global};
+
+/// Whether a table takes entries of this kind.
+fn is_built(change: &Change) -> bool
+    ensures { result ≡ is_built change.now }
+{
+    match change {
+        Change::Create { .. } => true,
+        Change::Delete => true,
+        Change::Write { .. } => true,
+        Change::Link { .. } => false,
+        Change::Repack { .. } => false,
+        Change::Prune { .. } => false,
+        Change::PackRefs { .. } => false,
+        Change::Unlink { .. } => false,
+    }
+}
+
+/// Whether an entry fits at the front: `ok`, or what stands against it.
+pub(crate) fn fits(table: &Table, entry: &Entry) -> &'static str {
+    if !is_built(&entry.change) {
+        return "not built";
+    }
+    if table.fits(entry) { "fits" } else { "unfit" }
+}
+
+/// Adds an entry: `ok`, or what stands against it.
+pub(crate) fn add_table(alloc: Global, table: &mut Table, entry: Entry) -> &'static str {
+    let Some(next) = table.front().checked_add(1) else {
+        return "full";
+    };
+    if entry.position != next {
+        return "not next";
+    }
+    if !is_built(&entry.change) {
+        return "not built";
+    }
+    if !table.fits(&entry) {
+        return "unfit";
+    }
+    if table.prepare(alloc, &entry).is_err() {
+        return "memory";
+    }
+    table.add(entry);
+    "ok"
+}
+
+/// `get`, `list`, `place` or `member`, at a position.
+pub(crate) fn row(
+    out: &mut Vec<u8>,
+    alloc: Global,
+    table: &Table,
+    question: &str,
+    asked: &Asked,
+) -> Result<(), AllocError> {
+    if table.front() < asked.at {
+        return put(out, b"no such position");
+    }
+    match question {
+        "get" => get(out, alloc, table, asked),
+        "list" => list(out, alloc, table, asked),
+        "place" => place(out, table, asked),
+        "member" => put_path(out, table.least_member(&asked.path)),
+        _ => put(out, b"no such question"),
+    }
+}
+
+fn get(out: &mut Vec<u8>, alloc: Global, table: &Table, asked: &Asked) -> Result<(), AllocError>
+    requires { asked.now.at ≤ length table.now.log }
+{
+    match ref_of(alloc, asked.word) {
+        Some(name) => put_value(out, table.value_at(asked.at, &asked.path, &name)),
+        None => put(out, b"no such name"),
+    }
+}
+
+fn list(out: &mut Vec<u8>, alloc: Global, table: &Table, asked: &Asked) -> Result<(), AllocError>
+    requires { asked.now.at ≤ length table.now.log }
+{
+    match table.list_at(alloc, asked.at, &asked.path, asked.word.as_bytes()) {
+        Ok(list) => put_list(out, &list),
+        Err(_) => put(out, b"memory"),
+    }
+}
+
+fn place(out: &mut Vec<u8>, table: &Table, asked: &Asked) -> Result<(), AllocError>
+    requires { asked.now.at ≤ length table.now.log }
+{
+    match name_of(asked.word) {
+        Some(name) => put_place(out, table.place_at(asked.at, &asked.path, &name)),
+        None => put(out, b"no such name"),
+    }
+}
