@@ -1,4 +1,4 @@
-// Look-ups in std::map with the names of crates/reftable_bench: "COUNT NANOSECONDS FOUND WARM" for each argument.
+// Look-ups in std::map with the names of crates/bench: "COUNT NANOSECONDS FOUND WARM" for each argument.
 #include <chrono>
 #include <cstdint>
 #include <cstdio>

@@ -1,16 +1,14 @@
-//! How fast references are looked up: for each number of references that is given as an argument, the nanoseconds of one
-//! of 200,000 look-ups of names in no order. With no argument it only says so. `bench/reftable` runs it beside `std::map`.
-#![tactic(auto)]
-
+//! How fast references are looked up: so many references, and the nanoseconds of one of 200,000 look-ups of names in no order.
+//! `bench/reftable` runs it beside `std::map`.
 ghost use Rattle.std.specs.Prelude.{◌≡◌, ◌≤◌};
 
 use gt_list::NoMemory;
 use gt_name::{Name, RefName, RepoPath};
 use gt_reftable::RefTable;
 use std::alloc::Global;
+use std::io;
 use std::rt::Runtime;
 use std::time::Instant;
-use std::{env, io};
 
 const LOOKUPS: u64 = 200_000;
 
@@ -51,10 +49,12 @@ fn asked_names(alloc: Global, count: u64) -> Result<Vec<RefName>, NoMemory> {
     Ok(names)
 }
 
-fn look(table: &RefTable, at: u64, path: &RepoPath, names: &[RefName]) -> u64
-    requires from { table.now.floor ≤ at }
-    requires to { at ≤ table.now.front }
-{
+/// How many of the names are found at the floor.
+fn look(table: &RefTable, path: &RepoPath, names: &[RefName]) -> u64 {
+    let at = table.floor();
+    if at > table.front() {
+        return 0;
+    }
     let mut found = 0u64;
     for name in names {
         if table.get(at, path, name).is_some() {
@@ -64,38 +64,32 @@ fn look(table: &RefTable, at: u64, path: &RepoPath, names: &[RefName]) -> u64
     found
 }
 
-fn measure<R: Runtime>(rt: &R, alloc: Global, count: u64) -> io::Result<()> {
+fn prepared(alloc: Global, count: u64) -> Result<(RepoPath, RefTable, Vec<RefName>), NoMemory> {
     let Ok(path) = RepoPath::parse(alloc, b"a.git") else {
-        return println!(rt; "no memory");
+        return Err(NoMemory);
     };
-    let Ok(table) = filled(alloc, &path, count) else {
-        return println!(rt; "no memory");
-    };
-    let Ok(names) = asked_names(alloc, count) else {
-        return println!(rt; "no memory");
-    };
-    let at = table.floor();
-    if at > table.front() {
-        return println!(rt; "wrong");
-    }
-    let warm = look(&table, at, &path, names.as_slice());
-    let start = Instant::now(rt)?;
-    let found = look(&table, at, &path, names.as_slice());
-    let each = start.elapsed(rt)?.as_nanos() / 200_000;
-    println!(rt; "{count} {each} {found} {warm}")
+    let table = filled(alloc, &path, count)?;
+    let names = asked_names(alloc, count)?;
+    Ok((path, table, names))
 }
 
-fn main(rt: HostRuntime) -> io::Result<()> {
-    let mut asked = false;
-    for word in env::args(&rt)?.skip(1) {
-        asked = true;
-        match word.as_str().parse::<u64>() {
-            Ok(count) => measure(&rt, rt.alloc(), count)?,
-            Err(_) => println!(rt; "reftable_bench: not a number of references")?,
-        }
+pub(crate) fn measure<R: Runtime>(rt: &R, alloc: Global, count: u64) -> io::Result<()> {
+    match prepared(alloc, count) {
+        Ok((path, table, names)) => time(rt, count, &table, &path, &names),
+        Err(_) => println!(rt; "no memory"),
     }
-    if !asked {
-        println!(rt; "reftable_bench: nothing measured, since no number of references was given")?;
-    }
-    Ok(())
+}
+
+fn time<R: Runtime>(
+    rt: &R,
+    count: u64,
+    table: &RefTable,
+    path: &RepoPath,
+    names: &[RefName],
+) -> io::Result<()> {
+    let warm = look(table, path, names);
+    let start = Instant::now(rt)?;
+    let found = look(table, path, names);
+    let each = start.elapsed(rt)?.as_nanos() / 200_000;
+    println!(rt; "{count} {each} {found} {warm}")
 }
