@@ -74,7 +74,7 @@ pub fn gitstore_plain<H: Host, S: Source, K: Sink>(
 }
 
 /// The requests of the whole input.
-fn requests_in<S: Source>(alloc: Global, source: &mut S) -> Result<Vec<Request>, Status>
+pub(crate) fn requests_in<S: Source>(alloc: Global, source: &mut S) -> Result<Vec<Request>, Status>
     ensures input { ReadsInput result (S.left source.old) }
     ensures few { IfOk result (λ requests. length requests.items < 2 ^ 32) }
     ensures built { IfOk result (λ requests. not_built requests.items ≡ None) }
