@@ -27,6 +27,3 @@ pub use steady::SteadyDisk;
 pub use stop::Stop;
 pub use synced::{append_synced, write_synced};
 pub use whole::read_whole;
-
-#[cfg(test)]
-mod tests;

@@ -13,6 +13,3 @@ pub use log::Log;
 pub use log_error::LogError;
 pub use mount_cause::MountCause;
 pub use mount_error::MountError;
-
-#[cfg(test)]
-mod tests;

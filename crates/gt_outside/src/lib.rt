@@ -24,6 +24,3 @@ pub use source::Source;
 pub use steady_sink::SteadySink;
 pub use steady_source::SteadySource;
 pub use writing::write_whole;
-
-#[cfg(test)]
-mod tests;
