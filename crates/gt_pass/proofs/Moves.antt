@@ -1,14 +1,14 @@
 -- Each step keeps the rule.
-use Rattle.std.proofs.Common.{◌≡◌, ◌≢◌, ◌⊎◌, inl, ℕ, zero, suc, ◌+◌, ◌≤◌, List, [], ◌∷◌, ◌++◌, length, set, Bool, true, false, true≢false, refl, sym, ap, ◌∙◌, subst, ⊎_elim, arith}
+use Rattle.std.proofs.Common.{◌≡◌, ◌≢◌, inl, ℕ, zero, suc, ◌+◌, ◌≤◌, List, [], ◌∷◌, ◌++◌, length, set, true, false, true≢false, refl, sym, ap, ◌∙◌, subst, ⊎_elim, arith}
 use Rattle.std.specs.Prelude.{slice_index, slice_set}
 use mathlib.Core.Option.{none, some, some-ne-none, some-injective}
 use mathlib.Core.Logic.{dite}
 use native.Mathlib.Decide.{ℕ_discrete}
 use lib.ListN.{get_elem?}
-use Rattle.atomic_table.specs.Table.{State, Me, Step, Act, keeps, Allows, Splits, Joins, opening}
+use Rattle.atomic_table.specs.Table.{State, Me, Step, keeps, Allows, Splits, Joins, opening}
 use Rattle.atomic_table.proofs.Lists.{at_set, at_snoc, set_again, set_else, at_longer}
 use Rattle.gt_pass.specs.declared.hand.Hand.{Hand}
-use Rattle.gt_pass.specs.Hands.{total, has, times, without, IsIn, keeping, bearing, first_of, rest_of, live_after, Fits, IsKeeper, Kept, dealt, taken, both, Opens, Checks, Ends}
+use Rattle.gt_pass.specs.Hands.{total, has, times, IsIn, keeping, bearing, first_of, rest_of, live_after, Fits, IsKeeper, Kept, dealt, taken, both, Opens, Checks, Ends}
 use Rattle.gt_pass.proofs.Totals.{set_at, total_set, total_append, total_at, total_parts, first_short, same, in_weighs, weighs_in, has_at_most, without_total, without_less}
 
 off : false ≡ true → ⊥
@@ -91,6 +91,9 @@ in_live s id v h at is p i =
     let b = total_at (λ (u : Hand). total (same p) u.hand) s.views id v at in
     weighs_in p v.live (omega (arith, a, b, h.4 (same p), ap (total (same p)) f.1))
 
+once_in : (s : State ℕ Hand) (id : ℕ) (v : Hand) → Kept s → get_elem? s.views id ≡ some v → (n : ℕ) → times n v.hand ≤ 1
+once_in s id v h at n = let b = total_at (λ (u : Hand). total (has n) u.hand) s.views id v at in omega (arith, b, h.4 (has n), h.5 n)
+
 pub checks : (slots id : ℕ) (m : Me ℕ Hand) → m.0.keeps ≡ true → Allows Kept slots id m 0 (λ n. n) (Checks unread m)
 checks slots id m is s h sized at small =
     let v = m.0 in
@@ -99,7 +102,7 @@ checks slots id m is s h sized at small =
       keeps,
       tt,
       keeper_moves s id v v.live v.hand h at is (λ g. refl) (λ n. subst (λ (l : List (ℕ × ℕ)). times n l ≤ 1) (sym f.1) (h.5 n)),
-      (refl, in_live s id v h at is),
+      (refl, in_live s id v h at is, once_in s id v h at),
     )
 
 pub ends : (slots id : ℕ) (m : Me ℕ Hand) → m.0.keeps ≡ true → Allows Kept slots id m 0 (λ n. n) (Ends unread m)

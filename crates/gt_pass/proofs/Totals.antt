@@ -1,10 +1,10 @@
 -- Totals over lists of passes and of hands.
-use Rattle.std.proofs.Common.{◌≡◌, ◌≢◌, ◌⊎◌, inl, inr, ⊎_elim, ℕ, zero, suc, ◌+◌, ◌≤◌, eqb, eq-eqb, ne_eqb, eqb→eq, ◌==◌, ◌&&◌, List, [], ◌∷◌, ◌++◌, length, set, Bool, true, false, true≢false, refl, sym, ap, subst, ◌∙◌, arith}
+use Rattle.std.proofs.Common.{◌≡◌, ◌≢◌, inl, inr, ⊎_elim, ℕ, zero, suc, ◌+◌, ◌≤◌, eq-eqb, ne_eqb, ◌==◌, List, [], ◌∷◌, ◌++◌, length, set, refl, sym, ap, subst, ◌∙◌, arith}
 use mathlib.Core.Option.{some, some-ne-none, some-injective}
 use mathlib.Core.Logic.{dite}
 use native.Mathlib.Decide.{ℕ_discrete}
 use lib.ListN.{get_elem?}
-use Rattle.gt_pass.specs.Hands.{pick, total, has, times, without, IsIn, first_of, rest_of, live_after}
+use Rattle.gt_pass.specs.Hands.{pick, total, has, times, without, IsIn, first_of, rest_of}
 
 module _ {A : Type 0} where
   pub set_at : (l : List A) (i : ℕ) (a b : A) → get_elem? l i ≡ some a → get_elem? (set l i b) i ≡ some b
@@ -63,6 +63,10 @@ weighs_in p (q ∷ qs) le =
 
 has_self : (n : ℕ) (p : ℕ × ℕ) → p.0 ≡ n → has n p ≡ 1
 has_self n p e = ap (λ b. pick b 1 0) (eq-eqb p.0 n e)
+
+-- a number that stands twice isn't there once at most
+pub not_twice : (n : ℕ) (p q : ℕ × ℕ) (ps : List (ℕ × ℕ)) → p.0 ≡ n → q.0 ≡ n → times n (p ∷ q ∷ ps) ≤ 1 → ⊥
+not_twice n p q ps e f le = omega (arith, has_self n p e, has_self n q f, le)
 
 has_other : (n : ℕ) (p : ℕ × ℕ) → p.0 ≢ n → has n p ≡ 0
 has_other n p e = ap (λ b. pick b 1 0) (ne_eqb p.0 n e)

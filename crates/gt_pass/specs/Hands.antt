@@ -75,9 +75,9 @@ both v w = record { keeps = v.keeps; live = v.live; hand = w.hand ++ v.hand }
 abbrev pub Opens : ℕ × ℕ → Step ℕ → Me ℕ Hand → ℕ → Me ℕ Hand → Type 0
 Opens p s m n w = w ≡ (record { keeps = m.0.keeps; live = m.0.live ++ p ∷ []; hand = p ∷ m.0.hand }, m.1)
 
--- what is in the hand is live
+-- what is in the hand is live, and no number is there twice
 abbrev pub Checks : Step ℕ → Me ℕ Hand → ℕ → Me ℕ Hand → Type 0
-Checks s m n w = (w ≡ m) × ((p : ℕ × ℕ) → IsIn p m.0.hand → IsIn p m.0.live)
+Checks s m n w = (w ≡ m) × ((p : ℕ × ℕ) → IsIn p m.0.hand → IsIn p m.0.live) × ((n : ℕ) → times n m.0.hand ≤ 1)
 
 -- the first of the hand leaves it, and its number is no longer live
 abbrev pub Ends : Step ℕ → Me ℕ Hand → ℕ → Me ℕ Hand → Type 0

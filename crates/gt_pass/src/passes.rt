@@ -1,6 +1,6 @@
-ghost use Rattle.std.specs.Prelude.{◌≡◌, ℕ, List, [], ◌∷◌, ◌++◌, IfOk};
+ghost use Rattle.std.specs.Prelude.{◌≡◌, ◌≢◌, ℕ, List, [], ◌∷◌, ◌++◌, IfOk, true, false};
 ghost use Rattle.gt_pass.specs.Known.{Keeping, Bearing};
-ghost use Rattle.gt_pass.specs.Hands.{times, without, IsIn};
+ghost use Rattle.gt_pass.specs.Hands.{times, without, IsIn, bearing, both, dealt, taken};
 
 use crate::hand::Hand;
 use crate::rule::{Check, Deal, Empty, End, Law, Named, Open};
@@ -106,14 +106,50 @@ impl Passes {
         ensures live { IsIn (seat.old.number, seat.old.mark) keeper.old.live }
         ensures same { (keeper.new ≡ keeper.old) × (seat.new ≡ seat.old) }
     {
+        self.show(&mut keeper.seat, &mut seat.seat);
+        self.table.shared.load::<Check>(&mut keeper.seat, 0);
+        self.give_back(&mut keeper.seat, &mut seat.seat);
+    }
+
+    /// Shows that two seats have two numbers. Nothing changes.
+    pub fn tell_apart(&self, keeper: &mut Keeper, one: &mut PassSeat, other: &mut PassSeat)
+        requires keeper { keeper.old.table ≡ self.now }
+        requires one { one.old.table ≡ self.now }
+        requires other { other.old.table ≡ self.now }
+        ensures numbers { one.old.number ≢ other.old.number }
+        ensures same { (keeper.new ≡ keeper.old) × (one.new ≡ one.old) × (other.new ≡ other.old) }
+    {
+        self.show(&mut keeper.seat, &mut one.seat);
+        self.show(&mut keeper.seat, &mut other.seat);
+        self.table.shared.load::<Check>(&mut keeper.seat, 0);
+        self.give_back(&mut keeper.seat, &mut other.seat);
+        self.give_back(&mut keeper.seat, &mut one.seat);
+    }
+
+    // What a seat has in its hand goes to the front of the keeper's.
+    fn show(&self, keeper: &mut Seat<u8, Hand>, seat: &mut Seat<u8, Hand>)
+        requires keeper { (keeper.old.table_id ≡ self.now) × (keeper.old.me.0.keeps ≡ true) }
+        requires seat { (seat.old.table_id ≡ self.now) × (seat.old.me.0.keeps ≡ false) × (seat.old.me.1 ≡ []) }
+        ensures keeper { (keeper.new.table_id ≡ self.now) × (keeper.new.me ≡ (both keeper.old.me.0 seat.old.me.0, keeper.old.me.1)) }
+        ensures seat { (seat.new.table_id ≡ self.now) × (seat.new.me ≡ (bearing [], [])) }
+    {
         let shared = &self.table.shared;
-        let empty = shared.split_seat::<Empty>(&mut keeper.seat);
-        let shown = std::mem::replace(&mut seat.seat, empty);
-        shared.join_seat::<Empty>(&mut keeper.seat, shown);
-        shared.load::<Check>(&mut keeper.seat, 0);
-        let back = shared.split_seat::<Deal>(&mut keeper.seat);
-        let empty = std::mem::replace(&mut seat.seat, back);
-        shared.join_seat::<Empty>(&mut keeper.seat, empty);
+        let empty = shared.split_seat::<Empty>(keeper);
+        let shown = std::mem::replace(seat, empty);
+        shared.join_seat::<Empty>(keeper, shown);
+    }
+
+    // The first of the keeper's hand goes to a seat, which is put in its hand's place.
+    fn give_back(&self, keeper: &mut Seat<u8, Hand>, seat: &mut Seat<u8, Hand>)
+        requires keeper { (keeper.old.table_id ≡ self.now) × (keeper.old.me.0.keeps ≡ true) }
+        requires seat { (seat.old.table_id ≡ self.now) × (seat.old.me.0.keeps ≡ false) × (seat.old.me.1 ≡ []) }
+        ensures keeper { (keeper.new.table_id ≡ self.now) × (keeper.new.me ≡ (both (dealt keeper.old.me.0) seat.old.me.0, keeper.old.me.1)) }
+        ensures seat { (seat.new.table_id ≡ self.now) × (seat.new.me ≡ (taken keeper.old.me.0, [])) }
+    {
+        let shared = &self.table.shared;
+        let back = shared.split_seat::<Deal>(keeper);
+        let empty = std::mem::replace(seat, back);
+        shared.join_seat::<Empty>(keeper, empty);
     }
 
     /// Ends a pass: its number isn't live any more.

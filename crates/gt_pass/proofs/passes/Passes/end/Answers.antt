@@ -1,6 +1,5 @@
-use Rattle.std.proofs.Common.{rules, arith, refl, inl, ap, sym, subst, ◌∙◌, ◌≡◌, ℕ, List, [], ◌∷◌}
-use Rattle.gt_pass.specs.Hands.{times, IsIn, both, dealt}
-use Rattle.gt_pass.proofs.Moves.{begins, opens, checks, ends, deals, empties, joins}
+use Rattle.std.proofs.Common.{rules, ap, ◌∙◌}
+use Rattle.gt_pass.proofs.Moves.{ends, joins}
 use Rattle.gt_pass.proofs.passes.Passes.end.Goals as goal
 
 pub join_seat-requires : goal.join_seat-requires

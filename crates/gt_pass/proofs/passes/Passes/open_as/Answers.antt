@@ -1,6 +1,6 @@
-use Rattle.std.proofs.Common.{rules, arith, refl, inl, ap, sym, subst, ◌∙◌, ◌≡◌, ℕ, List, [], ◌∷◌}
-use Rattle.gt_pass.specs.Hands.{times, IsIn, both, dealt}
-use Rattle.gt_pass.proofs.Moves.{begins, opens, checks, ends, deals, empties, joins}
+use Rattle.std.proofs.Common.{rules, ap, sym, subst, ◌∙◌, ◌≡◌, ℕ}
+use Rattle.gt_pass.specs.Hands.{times}
+use Rattle.gt_pass.proofs.Moves.{opens, deals}
 use Rattle.gt_pass.proofs.passes.Passes.open_as.Goals as goal
 
 pub load-requires : goal.load-requires
