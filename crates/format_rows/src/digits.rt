@@ -1,6 +1,5 @@
 //! Bytes, as rows show them.
-use std::fmt;
-use std::str;
+use std::{fmt, str};
 
 /// Bytes in hex, two digits each; `-` where there are none.
 #[derive(Clone, Copy)]

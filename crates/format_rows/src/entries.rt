@@ -71,14 +71,23 @@ fn write_lines(
 
 fn update_lines(rt: &impl Print, refs: &[RefUpdate]) -> io::Result<()> {
     for it in refs {
-        println!(rt; "  ref {} {} {}", Text(it.name.bytes()), Digits(&it.old.0), Digits(of(&it.new)))?;
+        println!(rt;
+            "  ref {} {} {}",
+            Text(it.name.bytes()),
+            Digits(&it.old.0),
+            Digits(of(&it.new))
+        )?;
     }
     Ok(())
 }
 
 fn added_lines(rt: &impl Print, added: &[Added]) -> io::Result<()> {
     for it in added {
-        println!(rt; "  adds {} {}", Digits(&it.name.0), Digits(it.whole.bytes()))?;
+        println!(rt;
+            "  adds {} {}",
+            Digits(&it.name.0),
+            Digits(it.whole.bytes())
+        )?;
     }
     Ok(())
 }

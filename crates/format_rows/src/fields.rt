@@ -65,7 +65,11 @@ fn fields_line(
         name,
         text,
     } = fields;
-    print!(rt; "{byte} {short} {word} {long} {} {} ", Digits(name), Text(text))?;
+    print!(rt;
+        "{byte} {short} {word} {long} {} {} ",
+        Digits(name),
+        Text(text)
+    )?;
     let mut out = Vec::new(alloc);
     match put_fields(&mut out, fields) {
         Ok(()) => println!(rt; "{} {end}", bytes.starts_with(&out)),
@@ -104,7 +108,12 @@ fn list_of(alloc: Global, bytes: &[u8]) -> Option<ListOf<u8>> {
 
 fn list_line(rt: &impl Print, mut list: ListOf<u8>, other: &ListOf<u8>) -> io::Result<()> {
     let len = list.len();
-    print!(rt; "{len} {:?} {:?} {} ", list.at(0), list.at(len), list == *other)?;
+    print!(rt;
+        "{len} {:?} {:?} {} ",
+        list.at(0),
+        list.at(len),
+        list == *other
+    )?;
     let last = list.pop();
     println!(rt; "{last:?} {} {}", Digits(list.as_slice()), list == *other)
 }

@@ -26,7 +26,10 @@ fn is_spelled(alloc: Global, manifest: &Manifest, bytes: &[u8]) -> bool
 }
 
 fn manifest_lines(rt: &impl Print, it: &Manifest, is_spelled: bool) -> io::Result<()> {
-    println!(rt; "epoch {} applied {} next {} {is_spelled}", it.epoch, it.applied, it.next)?;
+    println!(rt;
+        "epoch {} applied {} next {} {is_spelled}",
+        it.epoch, it.applied, it.next
+    )?;
     for repo in it.repos.as_slice() {
         repo_line(rt, repo)?;
         loose_lines(rt, repo.loose.as_slice())?;
@@ -36,8 +39,19 @@ fn manifest_lines(rt: &impl Print, it: &Manifest, is_spelled: bool) -> io::Resul
 
 /// The path, whether it is a pool, its pool, its packs and packed references, and when it was last packed.
 fn repo_line(rt: &impl Print, it: &RepoFiles) -> io::Result<()> {
-    print!(rt; "  {} {} {} ", Text(it.path.bytes()), it.is_pool, Text(pool_of(&it.pool)))?;
-    println!(rt; "{:?} {} {} {}", it.packs.as_slice(), it.packed, it.repacked, it.refs_packed)
+    print!(rt;
+        "  {} {} {} ",
+        Text(it.path.bytes()),
+        it.is_pool,
+        Text(pool_of(&it.pool))
+    )?;
+    println!(rt;
+        "{:?} {} {} {}",
+        it.packs.as_slice(),
+        it.packed,
+        it.repacked,
+        it.refs_packed
+    )
 }
 
 fn pool_of(pool: &Option<RepoPath>) -> &[u8] {

@@ -17,7 +17,11 @@ pub(crate) fn pack_row(rt: &impl Print, alloc: Global, bytes: &[u8]) -> io::Resu
 
 /// Each record with its place and length, and what is found by its name; then what is found of the least and the greatest name.
 fn index_lines(rt: &impl Print, index: &PackIndex) -> io::Result<()> {
-    println!(rt; "pack {:?} {:?}", index.find(&Name::ZERO), index.find(&Name([255; 20])))?;
+    println!(rt;
+        "pack {:?} {:?}",
+        index.find(&Name::ZERO),
+        index.find(&Name([255; 20]))
+    )?;
     for i in 0..u32::MAX {
         match index.item(i) {
             Some((name, place, len)) => {

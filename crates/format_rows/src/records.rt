@@ -36,7 +36,12 @@ fn record_lines(
 fn record_line(rt: &impl Print, record: &Record) -> io::Result<()> {
     let name = record.name();
     let len = record.bytes().len();
-    println!(rt; "{:?} {} {len} {}", record.kind(), Digits(&name.0), record.content().len())
+    println!(rt;
+        "{:?} {} {len} {}",
+        record.kind(),
+        Digits(&name.0),
+        record.content().len()
+    )
 }
 
 fn needs_lines(rt: &impl Print, alloc: Global, record: &Record) -> io::Result<()> {

@@ -56,12 +56,7 @@ pub(crate) fn numbered_refusal(word: &str, first: u64, second: u64) -> Option<Re
     }
 }
 
-pub(crate) fn named_refusal(
-    alloc: Global,
-    word: &str,
-    first: &str,
-    rest: &str,
-) -> Option<Refusal> {
+pub(crate) fn named_refusal(alloc: Global, word: &str, first: &str, rest: &str) -> Option<Refusal> {
     match word {
         "Absent" => Some(Refusal::Absent {
             name: name_of(first)?,

@@ -58,7 +58,12 @@ fn is_spelled(alloc: Global, list: &PackedList, bytes: &[u8]) -> bool
 fn ref_lines(rt: &impl Print, refs: &[PackedRef], is_spelled: bool) -> io::Result<()> {
     println!(rt; "{} references {is_spelled}", refs.len())?;
     for it in refs {
-        println!(rt; "  {} {} {}", Text(it.name.bytes()), Digits(&it.value.0), Digits(of(&it.peeled)))?;
+        println!(rt;
+            "  {} {} {}",
+            Text(it.name.bytes()),
+            Digits(&it.value.0),
+            Digits(of(&it.peeled))
+        )?;
     }
     Ok(())
 }

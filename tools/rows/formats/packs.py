@@ -98,11 +98,13 @@ def build_rows():
         yield build_row(call, THREE_RECORDS, "Err(Failed)", 1, good, digits, [digits] * 3)
     # A failed write leaves five bytes of the head. A stop leaves the file absent, so, or with the one byte 0xff.
     yield build_row(6, THREE_RECORDS, good, 1, "Err(Failed)", pack(THREE_RECORDS)[:5].hex(), ["absent", pack(THREE_RECORDS)[:5].hex(), "ff"])
-    yield build_row(12, THREE_RECORDS, good, 0, good, digits, [digits] * 3)
-    yield build_row(12, [], "Ok(None)", 0, "Ok(None)", pack([]).hex(), [pack([]).hex()] * 3)
+    yield build_row(99, THREE_RECORDS, good, 0, good, digits, [digits] * 3)
+    # After the twelve calls of both, the first one of the reader.
+    yield build_row(12, THREE_RECORDS, good, 0, good, "Failed", [digits] * 3)
+    yield build_row(99, [], "Ok(None)", 0, "Ok(None)", pack([]).hex(), [pack([]).hex()] * 3)
     # The second record's name is lower, so it isn't taken, and no index is written.
     half = b"".join([b"GTP1", u32(2), *item_fields([TEST_RECORD])])
-    yield build_row(12, [TEST_RECORD, HELLO_RECORD], "Ok(None)", 0, "Ok(None)", half.hex(), ["absent", half.hex(), "ff"])
+    yield build_row(99, [TEST_RECORD, HELLO_RECORD], "Ok(None)", 0, "Ok(None)", half.hex(), ["absent", half.hex(), "ff"])
 
 
 def rows():
