@@ -2,6 +2,7 @@
 use crate::words::number;
 use std::alloc::Global;
 
+/// 64 zeros.
 const BLOCK: &[u8] = b"0000000000000000000000000000000000000000000000000000000000000000";
 
 /// Adds what a line stands for. `*N LINE` is as many lines, in which `{}` is the number of the line from 0, in six digits;
@@ -45,10 +46,10 @@ fn add_copy(alloc: Global, script: &mut Vec<u8>, n: u64, before: &str, after: &s
 
 fn add_long(script: &mut Vec<u8>, zeros: u64, line: &str) -> Option<()> {
     script.extend_from_slice(line.as_bytes()).ok()?;
-    for _ in 0..zeros / BLOCK.len() as u64 {
+    for _ in 0..zeros / 64 {
         script.extend_from_slice(BLOCK).ok()?;
     }
-    for _ in 0..zeros % BLOCK.len() as u64 {
+    for _ in 0..zeros % 64 {
         script.push(b'0').ok()?;
     }
     script.push(b'\n').ok()

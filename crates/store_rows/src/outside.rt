@@ -1,7 +1,7 @@
 //! Rows on inputs, outputs and hosts alone, of which calls fail by a list, as `1,2`, or none, as `-`.
 ghost use Rattle.std.specs.Prelude.{◌≡◌, ℕ, false, IfSome};
 
-use crate::words::{bytes_of, number};
+use crate::words::{bytes_of, number, numbers};
 use gt_disk::{Disk, FileId, MemDisk};
 use gt_outside::{
     Host, MemHost, MemSink, MemSource, Sink, Source, SteadySink, SteadySource, read_whole,
@@ -17,7 +17,7 @@ pub(crate) fn take_row(rt: &impl Print, alloc: Global, row: &str) -> io::Result<
         "read" => read(rt, alloc, number(first), rest),
         "pieces" => read_pieces(rt, alloc, first, rest),
         "write" => write(rt, alloc, first, rest),
-        _ => take_disks(rt, alloc, first, rest),
+        _ => take_disks(rt, alloc, first),
     };
     match done {
         Some(done) => done,
@@ -30,7 +30,7 @@ fn faults_of(alloc: Global, word: &str) -> Option<Vec<u64>> {
     if word == "-" {
         return Some(Vec::new(alloc));
     }
-    word.split(',').map(number).collect(alloc).ok()
+    numbers(alloc, word, ',')
 }
 
 /// Reads an input whole up to a limit, from each source in memory, and then what is left.
@@ -115,18 +115,18 @@ fn write(rt: &impl Print, alloc: Global, faults: &str, pieces: &str) -> Option<i
     Some(println!(rt; "{:?} {:?}", sink.bytes(), steady.bytes()))
 }
 
-/// Takes two disks of a host of nine, writes to each and gives it back, and prints the clocks of all.
-fn take_disks(rt: &impl Print, alloc: Global, faults: &str, words: &str) -> Option<io::Result<()>> {
+/// Takes disks of a host of nine whose second call fails, and prints whether there is a tenth, whether the ninth was taken and
+/// given back, and the clocks of the last two.
+fn take_disks(rt: &impl Print, alloc: Global, faults: &str) -> Option<io::Result<()>> {
     let faults = faults_of(alloc, faults)?;
-    let (first, second) = words.split_once(' ')?;
     let mut host = host_of(alloc, &faults)?;
-    let first = take_and_give(&mut host, disk_of(first));
-    let second = take_and_give(&mut host, disk_of(second));
-    Some(println!(rt; "{first} {second} {:?}", clocks_of(alloc, &host)))
-}
-
-fn disk_of(word: &str) -> u8 {
-    word.parse::<u8>().unwrap_or(u8::MAX)
+    let has_tenth = host.take(9).is_ok();
+    if host.take(8).is_ok() {
+        return Some(println!(rt; "no fault"));
+    }
+    let is_taken = take_and_give(&mut host);
+    let (one, other) = (clock_of(&host, 7), clock_of(&host, 8));
+    Some(println!(rt; "{has_tenth} {is_taken} {one:?} {other:?}"))
 }
 
 fn host_of(alloc: Global, faults: &[u64]) -> Option<MemHost>
@@ -143,27 +143,22 @@ fn host_of(alloc: Global, faults: &[u64]) -> Option<MemHost>
     }
 }
 
-/// Whether a disk was taken. It is written to, and is out until it is given back.
-fn take_and_give(host: &mut MemHost, number: u8) -> bool
-    requires { (n : ℕ) → ⟦<MemHost as Host>⟧.is_out host.old n ≡ false }
-    ensures { (n : ℕ) → ⟦<MemHost as Host>⟧.is_out host.new n ≡ false }
+/// Whether the ninth disk was taken, and was out until it was given back.
+fn take_and_give(host: &mut MemHost) -> bool
+    requires { ⟦<MemHost as Host>⟧.is_out host.old 8 ≡ false }
 {
-    match host.take(number) {
+    match host.take(8) {
         Ok(mut disk) => {
-            let is_out = host.disk(number).is_none();
+            let is_out = host.disk(8).is_none() && host.disk(0).is_some();
             let file = FileId { kind: 3, number: 7 };
             let is_written = disk.write(file, b"x").is_ok();
-            host.give(number, disk);
-            is_out && is_written
+            host.give(8, disk);
+            is_out && is_written && host.disk(9).is_none()
         }
         Err(_) => false,
     }
 }
 
-/// The clock of each disk from 0 to 9; none where there is no such disk.
-fn clocks_of(alloc: Global, host: &MemHost) -> Option<Vec<Option<u64>>> {
-    (0..10u8)
-        .map(|number| host.disk(number).map(|disk| disk.tick()))
-        .collect(alloc)
-        .ok()
+fn clock_of(host: &MemHost, number: u8) -> Option<u64> {
+    Some(host.disk(number)?.tick())
 }

@@ -1,9 +1,7 @@
 //! Rows on disks alone: each is done to a disk in memory and to one that never fails, and its answers are printed.
 use crate::files::left_at_end;
-use crate::words::{bytes_of, choice_of, fault_of, file_of, number};
-use gt_disk::{
-    Disk, Fault, FileId, MemDisk, SteadyDisk, Stop, append_synced, read_whole, write_synced,
-};
+use crate::words::{bytes_of, choice_of, faults_of, file_of, number};
+use gt_disk::{Disk, FileId, MemDisk, SteadyDisk, Stop, append_synced, read_whole, write_synced};
 use std::alloc::Global;
 use std::io;
 
@@ -37,10 +35,7 @@ impl Pair {
     fn change(&mut self, alloc: Global, step: &str, words: &str) -> Option<()> {
         match step {
             "new" => *self = Pair::new(alloc)?,
-            "fail" => {
-                let faults: Vec<Fault> = words.split(' ').map(fault_of).collect(alloc).ok()?;
-                self.mem.fail(&faults).ok()?;
-            }
+            "fail" => self.mem.fail(&faults_of(alloc, words)?).ok()?,
             "stop" => self.stop(alloc, choice_of(words))?,
             _ => return None,
         }

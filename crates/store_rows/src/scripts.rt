@@ -45,10 +45,10 @@ impl Scripts {
 
     /// The last script of a name, or none.
     pub(crate) fn find(&self, name: &str) -> Option<&[u8]> {
-        let script = self
+        let at = self
             .all
             .iter()
-            .rfind(|script| script.name.as_str() == name)?;
-        Some(script.bytes.as_slice())
+            .rposition(|script| script.name.as_str() == name)?;
+        Some(self.all.get(at)?.bytes.as_slice())
     }
 }

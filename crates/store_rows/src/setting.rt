@@ -1,5 +1,5 @@
 //! What the next script meets.
-use crate::words::{fault_of, number, numbers};
+use crate::words::{faults_of, number, numbers};
 use gt_model::Limits;
 use gt_play::Setting;
 use std::alloc::Global;
@@ -28,10 +28,10 @@ pub(crate) fn mend(setting: &mut Setting) {
 /// Sets what fails in the next script, or the limits of all that follow.
 pub(crate) fn set(alloc: Global, setting: &mut Setting, what: &str, words: &str) -> Option<()> {
     match what {
-        "fail" => setting.faults = words.split(' ').map(fault_of).collect(alloc).ok()?,
-        "reads" => setting.reads = numbers(alloc, words)?,
-        "writes" => setting.writes = numbers(alloc, words)?,
-        "takes" => setting.takes = numbers(alloc, words)?,
+        "fail" => setting.faults = faults_of(alloc, words)?,
+        "reads" => setting.reads = numbers(alloc, words, ' ')?,
+        "writes" => setting.writes = numbers(alloc, words, ' ')?,
+        "takes" => setting.takes = numbers(alloc, words, ' ')?,
         "lengths" => setting.lengths = Some(number(words)),
         "limits" => setting.limits = limits_of(words),
         _ => return None,

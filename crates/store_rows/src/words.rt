@@ -6,9 +6,13 @@ pub(crate) fn number(word: &str) -> u64 {
     word.parse::<u64>().unwrap_or(u64::MAX)
 }
 
-/// All words of a row behind its first.
-pub(crate) fn numbers(alloc: Global, words: &str) -> Option<Vec<u64>> {
-    words.split(' ').map(number).collect(alloc).ok()
+/// The numbers of words that this character parts.
+pub(crate) fn numbers(alloc: Global, words: &str, between: char) -> Option<Vec<u64>> {
+    let mut list = Vec::new(alloc);
+    for word in words.split(between) {
+        list.push(number(word)).ok()?;
+    }
+    Some(list)
 }
 
 /// A file, as `4-1`.
@@ -21,12 +25,20 @@ pub(crate) fn file_of(word: &str) -> FileId {
 }
 
 /// A fault, as `14:1`: the call, and how many bytes are kept.
-pub(crate) fn fault_of(word: &str) -> Fault {
+fn fault_of(word: &str) -> Fault {
     let (call, kept) = word.split_once(':').unwrap_or((word, ""));
     Fault {
         call: number(call),
         kept: number(kept),
     }
+}
+
+pub(crate) fn faults_of(alloc: Global, words: &str) -> Option<Vec<Fault>> {
+    let mut list = Vec::new(alloc);
+    for word in words.split(' ') {
+        list.push(fault_of(word)).ok()?;
+    }
+    Some(list)
 }
 
 pub(crate) fn choice_of(word: &str) -> Stop {
