@@ -19,6 +19,3 @@ mod spelling;
 pub use laws::{own_objects_have_places, seeded_tables_agree, tables_follow_their_logs};
 pub use objset::ObjSet;
 pub use place::Place;
-
-#[cfg(test)]
-mod tests;

@@ -20,6 +20,3 @@ pub use content::PlainContent;
 pub use own::PlainOwn;
 pub use refs::PlainRefs;
 pub use repo::PlainRepo;
-
-#[cfg(test)]
-mod tests;

@@ -13,6 +13,3 @@ pub use laws::{
     empty_tables_agree, references_are_values, same_tables_agree, tables_follow_their_log,
 };
 pub use table::RefTable;
-
-#[cfg(test)]
-mod tests;

@@ -11,6 +11,3 @@ mod stage;
 pub use error::StageError;
 pub use laws::law_stage;
 pub use stage::Stage;
-
-#[cfg(test)]
-mod tests;

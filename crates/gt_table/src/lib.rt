@@ -6,6 +6,3 @@ mod front;
 mod table;
 
 pub use table::Table;
-
-#[cfg(test)]
-mod tests;

@@ -20,6 +20,3 @@ mod target;
 pub use deciding::verdict;
 pub use error::VerifyError;
 pub use ready::Ready;
-
-#[cfg(test)]
-mod tests;

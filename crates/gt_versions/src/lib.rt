@@ -7,6 +7,3 @@ mod versions;
 
 pub use laws::later_versions_leave_earlier_positions;
 pub use versions::Versions;
-
-#[cfg(test)]
-mod tests;
