@@ -30,11 +30,5 @@ fn run(rt: &HostRuntime) -> io::Result<Status> {
     let mut host = FolderHost::new(rt.clone()?, folder);
     let mut source = StandardInput::new(rt.clone()?);
     let mut sink = StandardOutput::new(rt.clone()?);
-    Ok(gitstore_plain(
-        alloc,
-        &words,
-        &mut host,
-        &mut source,
-        &mut sink,
-    ))
+    Ok(gitstore_plain(alloc, &words, &mut host, &mut source, &mut sink))
 }

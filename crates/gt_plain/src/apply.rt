@@ -5,8 +5,8 @@ ghost use Rattle.gt_model.specs.Contents.{new_repo, pool_own, with_refs, with_ad
 ghost use Rattle.gt_plain.specs.Plain.{or_empty};
 
 use crate::{PlainContent, PlainOwn, PlainRepo};
-use gt_model::{Added, Change, Entry, RefUpdate};
 use gt_list::NoMemory;
+use gt_model::{Added, Change, Entry, RefUpdate};
 use gt_name::{Name, RepoPath};
 use std::alloc::Global;
 

@@ -10,8 +10,8 @@ ghost use Rattle.gt_model.specs.Verdicts.{first_some, target, clash_in, refs_in,
 use crate::needs::{added_records, deps_of};
 use crate::present::{first_missing, is_present, target};
 use crate::{PlainContent, PlainRefs};
-use gt_model::{Added, Needer, RefUpdate, Refusal};
 use gt_list::NoMemory;
+use gt_model::{Added, Needer, RefUpdate, Refusal};
 use gt_name::RepoPath;
 use std::alloc::Global;
 

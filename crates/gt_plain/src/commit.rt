@@ -5,8 +5,8 @@ ghost use Rattle.gt_model.specs.Verdicts.{verdict};
 use crate::PlainContent;
 use crate::checks::failed;
 use crate::needs::{added_records, names_of, needed_names};
-use gt_model::{Added, AddedRecords, RefUpdates, Refusal};
 use gt_list::{ListOf, NoMemory};
+use gt_model::{Added, AddedRecords, RefUpdates, Refusal};
 use gt_name::{Names, RepoPath};
 use std::alloc::Global;
 

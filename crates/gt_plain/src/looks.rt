@@ -1,5 +1,5 @@
-use gt_model::Look;
 use crate::PlainContent;
+use gt_model::Look;
 use gt_name::{Name, Names2, RefName, RepoPath};
 
 impl Look for PlainContent {

@@ -9,8 +9,8 @@ ghost use Rattle.gt_model.specs.Verdicts.{ascending, target, is_added, added_rec
 
 use crate::PlainContent;
 use crate::present::{is_added, target};
-use gt_model::{Added, RefUpdate};
 use gt_list::{ListOf, NoMemory};
+use gt_model::{Added, RefUpdate};
 use gt_name::{Name, Names, RepoPath};
 use gt_object::Record;
 use std::alloc::Global;

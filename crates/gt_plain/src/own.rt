@@ -5,8 +5,8 @@ ghost use Rattle.std.specs.BTreeMap.{IsOrdered};
 ghost use Rattle.gt_model.specs.Contents.{key_cmp, with_added, without, union};
 ghost use Rattle.gt_plain.specs.Plain.{and_missing, with_missing};
 
-use gt_model::Added;
 use gt_list::NoMemory;
+use gt_model::Added;
 use gt_name::Name;
 use gt_object::Record;
 use std::alloc::{AllocError, Global};

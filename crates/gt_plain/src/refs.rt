@@ -5,9 +5,9 @@ ghost use Rattle.std.specs.FinMap as map;
 ghost use Rattle.gt_model.specs.Contents.{with_value, with_refs};
 ghost use Rattle.gt_model.specs.Verdicts.{same_name, clashes, clash_in};
 
-use gt_model::RefUpdate;
 use crate::names::{clashes, is_among};
 use gt_list::NoMemory;
+use gt_model::RefUpdate;
 use gt_name::{Name, RefName};
 use std::alloc::{AllocError, Global};
 use std::collections::BTreeMap;

@@ -4,8 +4,8 @@ ghost use Rattle.gt_model.specs.Contents.{new_repo, with_refs, with_added, witho
 ghost use Rattle.gt_plain.specs.Plain.{or_empty};
 
 use crate::{PlainOwn, PlainRefs};
-use gt_model::{Added, RefUpdate};
 use gt_list::NoMemory;
+use gt_model::{Added, RefUpdate};
 use gt_name::{Name, RepoPath};
 use std::alloc::{AllocError, Global};
 use std::marker::Model;

@@ -78,7 +78,7 @@ line_holds line r e =
     let X : Type 0 = IsObject r.value in
     let found : Option PackedRef = option_and_then (λ value. good_reference value (drop 41 line)) (name_of (take 40 line)) in
     both (ltb (length line) 41) None (cond (eqb (slice_index line 40) 32) found None) r X (no_some r X)
-        (both (eqb (slice_index line 40) 32) found None r X (named_holds (name_of (take 40 line)) (drop 41 line) r) (no_some r X)) e
+    (both (eqb (slice_index line 40) 32) found None r X (named_holds (name_of (take 40 line)) (drop 41 line) r) (no_some r X)) e
 
 with_ref_holds : (s : Sofar) (found : Option PackedRef) (next : Sofar) → Holds s → ((r : PackedRef) → found ≡ Some r → IsObject r.value) → with_ref s found ≡ Some next → Holds next
 with_ref_holds s None next h g e = no_some next (Holds next) e
@@ -101,9 +101,9 @@ after_holds n s line next h e =
     let named : Option Sofar = with_ref s (ref_line line) in
     let caret : Bool = starts_with nat_eq line (codes "^") in
     both (is_header n line) (some s) (cond caret peeled named) next (Holds next)
-        (λ f. subst Holds (is_some s next f) h)
-        (both caret peeled named next (Holds next) (with_peeled_holds s.0 s.1 (name_of (drop 1 line)) next h) (with_ref_holds s (ref_line line) next h (line_holds line)))
-        e
+    (λ f. subst Holds (is_some s next f) h)
+    (both caret peeled named next (Holds next) (with_peeled_holds s.0 s.1 (name_of (drop 1 line)) next h) (with_ref_holds s (ref_line line) next h (line_holds line)))
+    e
 
 -- ---- all lines
 
