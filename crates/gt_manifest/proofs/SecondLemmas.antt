@@ -1,5 +1,5 @@
 -- What has the first spelling has the second one, too.
-use Rattle.std.proofs.Common.{◌≡◌, ℕ, ◌+◌, Bool, true, false, cond, List, [], ◌∷◌, ◌++◌, length, Option, Some, None, Result, Ok, Err, refl, sym, ap, subst, ◌∙◌, arith}
+use Rattle.std.proofs.Common.{◌≡◌, ℕ, ◌+◌, Bool, true, false, cond, List, [], ◌∷◌, ◌++◌, length, Result, Ok, Err, refl, ap, arith}
 use Rattle.std.specs.Prelude.{is_ok, IfOk, nat_le, nat_lt, not, ◌&&◌, ◌==◌}
 use Rattle.std.specs.List.{list_any}
 use Rattle.std.specs.Ordering.{nat_cmp}
@@ -9,13 +9,12 @@ use Rattle.std.proofs.lemmas.Bool.Decides.{nat_tests}
 use Rattle.gt_bytes.specs.Reading.{◌>>=◌}
 use Rattle.gt_bytes.specs.Spelling.{Follows}
 use Rattle.gt_bytes.proofs.Steps.{bind_ok, ok_is}
-use Rattle.gt_manifest.specs.declared.manifest.Loose.{Loose}
 use Rattle.gt_manifest.specs.declared.manifest.RepoFiles.{RepoFiles}
 use Rattle.gt_manifest.specs.declared.manifest.Manifest.{Manifest}
 use Rattle.gt_manifest.specs.declared.version.Version.{Version}
 use Rattle.gt_manifest.specs.declared.version.Version.TheVariants.{First, Second}
 use Rattle.gt_manifest.specs.declared.error.ManifestError.{ManifestError}
-use Rattle.gt_manifest.specs.Spelling.{IsNumber, AreLasts, MayRepo, FitsFields}
+use Rattle.gt_manifest.specs.Spelling.{IsNumber, AreLasts, MayRepo}
 use Rattle.gt_manifest.specs.Whole.{State, past, walk, number_here, packed_here, loose_here, pool_stands, pool_here, pool_size, lasts_size, repo_here, whole, Fits, IsSpelledBy}
 
 -- ---- single fields
