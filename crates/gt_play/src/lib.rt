@@ -5,11 +5,11 @@
 mod hosting;
 mod mute_disk;
 mod mute_host;
-mod play;
-mod replay;
+mod playing;
+mod replaying;
 mod setting;
 
 pub use mute_disk::MuteDisk;
 pub use mute_host::MuteHost;
-pub use play::{Ended, play, play_mute};
+pub use playing::{Ended, play, play_mute};
 pub use setting::Setting;

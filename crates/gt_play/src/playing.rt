@@ -2,7 +2,7 @@
 ghost use Rattle.std.specs.Prelude.{◌≡◌, ℕ, false};
 
 use crate::hosting::{host_of, other_changed, taken};
-use crate::replay::replay;
+use crate::replaying::replay;
 use crate::{MuteHost, Setting};
 use gt_disk::MemDisk;
 use gt_outside::{Host, MemHost, MemSink, MemSource, read_whole};
