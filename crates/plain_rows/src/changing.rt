@@ -9,6 +9,7 @@ use crate::shown::put;
 use crate::{looking, staging};
 use gt_model::Entry;
 use std::alloc::{AllocError, Global};
+use std::mem;
 
 /// A row: `# WORDS`, which is printed as it is, or
 ///
@@ -65,7 +66,8 @@ fn put_unless_ok(out: &mut Vec<u8>, word: &str) -> Result<(), AllocError> {
 }
 
 fn begin(alloc: Global, bench: &mut Bench, floor: &str) -> Option<()> {
-    *bench = Bench::new(alloc, number(floor)?)?;
+    let mut anew = Bench::new(alloc, number(floor)?)?;
+    mem::swap(bench, &mut anew);
     Some(())
 }
 

@@ -6,6 +6,7 @@ use gt_model::{AddedRecords, RefUpdate};
 use gt_name::Name;
 use gt_stage::{Stage, StageError};
 use std::alloc::{AllocError, Global};
+use std::mem;
 
 /// - `up REFERENCE OLD NEW` and `put KIND CONTENT`: an update, a check or a record, and whether it is staged;
 /// - `many COUNT`, `fill COUNT`: so many numbered updates, or records;
@@ -24,7 +25,7 @@ pub(crate) fn row(
         Some(("many", count)) => put(out, stage_many(alloc, stage, number(count)).as_bytes()),
         Some(("fill", count)) => put(out, fill_stage(alloc, stage, number(count)).as_bytes()),
         Some(("byte", words)) => put(out, put_byte(alloc, stage, words).as_bytes()),
-        Some(("room", words)) => room(out, alloc, stage, words),
+        Some(("room", words)) => put(out, room(alloc, stage, words).as_bytes()),
         Some((question, word)) => ask(out, alloc, stage, question, word),
         None => put(out, b"bad row"),
     }
@@ -85,19 +86,19 @@ fn put_byte(alloc: Global, stage: &mut Stage, words: &str) -> &'static str {
     )
 }
 
-fn room(
-    out: &mut Vec<u8>,
-    alloc: Global,
-    stage: &mut Stage,
-    words: &str,
-) -> Result<(), AllocError> {
-    let (bytes, refs) = words.split_once(' ').unwrap_or((words, ""));
-    match (number(bytes), refs.parse::<u32>()) {
-        (Some(bytes), Ok(refs)) => {
-            *stage = Stage::with_room(alloc, bytes, refs);
-            Ok(())
+fn room_of(alloc: Global, words: &str) -> Option<Stage> {
+    let (bytes, refs) = words.split_once(' ')?;
+    let refs = refs.parse::<u32>().ok()?;
+    Some(Stage::with_room(alloc, number(bytes)?, refs))
+}
+
+fn room(alloc: Global, stage: &mut Stage, words: &str) -> &'static str {
+    match room_of(alloc, words) {
+        Some(mut empty) => {
+            mem::swap(stage, &mut empty);
+            "empty"
         }
-        _ => put(out, b"bad row"),
+        None => "bad row",
     }
 }
 

@@ -1,6 +1,8 @@
 //! The table of a log.
-ghost use Rattle.std.specs.Prelude.{◌≡◌, ◌≤◌, length};
-ghost use Rattle.gt_table.specs.Built.{is_built};
+ghost use Rattle.std.specs.Prelude.{◌≡◌, ◌≤◌, ◌+◌, None, IsTrue, length};
+ghost use Rattle.gt_model.specs.Contents.{fits as is_fit};
+ghost use Rattle.gt_model.specs.Machine.{content};
+ghost use Rattle.gt_table.specs.Built.{is_built, IsBuilt};
 
 use crate::asked::Asked;
 use crate::reading::{name_of, ref_of};
@@ -33,25 +35,42 @@ pub(crate) fn fits(table: &Table, entry: &Entry) -> &'static str {
     if table.fits(entry) { "fits" } else { "unfit" }
 }
 
-/// Adds an entry: `ok`, or what stands against it.
-pub(crate) fn add_table(alloc: Global, table: &mut Table, entry: Entry) -> &'static str {
-    let Some(next) = table.front().checked_add(1) else {
-        return "full";
-    };
-    if entry.position != next {
-        return "not next";
+/// What stands against adding an entry.
+fn refused(table: &Table, entry: &Entry) -> Option<&'static str>
+    ensures { result ≡ None → (entry.now.position ≡ length table.now.log + 1) × IsBuilt entry.now × IsTrue (is_fit (content table.now.log) entry.now) }
+{
+    if table.front().checked_add(1) != Some(entry.position) {
+        return Some("not next");
     }
     if !is_built(&entry.change) {
-        return "not built";
+        return Some("not built");
     }
-    if !table.fits(&entry) {
-        return "unfit";
+    if table.fits(entry) {
+        None
+    } else {
+        Some("unfit")
     }
-    if table.prepare(alloc, &entry).is_err() {
-        return "memory";
+}
+
+/// Adds an entry: `ok`, or what stands against it.
+pub(crate) fn add_table(alloc: Global, table: &mut Table, entry: Entry) -> &'static str {
+    if let Some(word) = refused(table, &entry) {
+        return word;
     }
-    table.add(entry);
-    "ok"
+    add_fit(alloc, table, entry)
+}
+
+fn add_fit(alloc: Global, table: &mut Table, entry: Entry) -> &'static str
+    requires next { entry.position ≡ length table.old.log + 1 }
+    requires fit { IsTrue (is_fit (content table.old.log) entry) }
+{
+    match table.prepare(alloc, &entry) {
+        Ok(()) => {
+            table.add(entry);
+            "ok"
+        }
+        Err(_) => "memory",
+    }
 }
 
 /// `get`, `list`, `place` or `member`, at a position.
