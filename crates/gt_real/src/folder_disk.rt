@@ -11,7 +11,7 @@ use crate::trouble::{Trouble, during, tell, tell_of_file, unless_absent};
 use gt_disk::{Disk, DiskError, Failed, FileId};
 use std::fs;
 use std::fs::{File, OpenFile, remove_file};
-use std::io::{Error, Seek, SeekFrom, Write};
+use std::io::{Error, ErrorKind, Seek, SeekFrom, Write};
 use std::rt::Files;
 
 /// A folder as a disk: one file for each, named `<kind>-<number>` in decimal. It tells nothing of content.
@@ -97,8 +97,21 @@ impl<R: Files<File = File> + Eprint + AllocGlobal + Clone + Drop> FolderDisk<R> 
         if at >= END_OF_PLACES {
             return Ok(0);
         }
-        during("seek", source.seek(SeekFrom::Start(at)))?;
-        during("read", fill(&mut source, into))
+        match source.seek(SeekFrom::Start(at)) {
+            Ok(_) => {}
+            // A place past the longest file of the file system is past this file's end.
+            Err(error) if error.kind() == ErrorKind::InvalidInput => return Ok(0),
+            Err(error) => {
+                return Err(Trouble {
+                    call: "seek",
+                    error,
+                });
+            }
+        }
+        // The system refuses a read that would reach past the last place, whatever the file has.
+        let room = usize::try_from(END_OF_PLACES - 1 - at).unwrap_or(usize::MAX);
+        let end = into.len().min(room);
+        during("read", fill(&mut source, &mut into[..end]))
     }
 
     fn try_write(&mut self, path: &str, file: FileId, bytes: &[u8]) -> Result<(), Trouble>
