@@ -9,8 +9,8 @@ use Rattle.gt_model.specs.declared.change.Change.{Change}
 use Rattle.gt_model.specs.declared.change.Change.TheVariants.{Write}
 use Rattle.gt_model.specs.declared.entry.Entry.{Entry}
 use Rattle.gt_model.specs.declared.update.RefUpdate.{RefUpdate}
-use Rattle.gt_model.specs.Contents.{Content, nothing, after, after_all, value_or_zero, finds_old, change_fits, fits, IsLegal}
-use Rattle.gt_model.specs.Machine.{with_doubt, content}
+use Rattle.gt_model.specs.Contents.{Content, after, after_all, value_or_zero, finds_old, change_fits, fits, IsLegal}
+use Rattle.gt_model.specs.Machine.{with_doubt}
 
 pub after_all-append : (c : Content) (one two : List Entry) → after_all c (one ++ two) ≡ after_all (after_all c one) two
 after_all-append c [] two = refl
@@ -29,12 +29,12 @@ pub legal_append : (c : Content) (p : ℕ) (log : List Entry) (e : Entry) → Is
 legal_append c p [] e legal at fit = ((let is : e.position ≡ p = omega (arith, at) in is), fit, tt)
 legal_append c p (x ∷ xs) e legal at fit = (legal.0, legal.1, legal_append (after c x) (p + 1) xs e legal.2 (omega (arith, at)) fit)
 
-pub legal_without_doubt : (log : List Entry) (doubt : Option Entry) → IsLegal nothing 1 (with_doubt log doubt) → IsLegal nothing 1 log
-legal_without_doubt log None legal = legal
-legal_without_doubt log (Some e) legal = legal_front nothing 1 log (e ∷ []) legal
+pub legal_without_doubt : (c : Content) (p : ℕ) (log : List Entry) (doubt : Option Entry) → IsLegal c p (with_doubt log doubt) → IsLegal c p log
+legal_without_doubt c p log None legal = legal
+legal_without_doubt c p log (Some e) legal = legal_front c p log (e ∷ []) legal
 
-pub content-push : (log : List Entry) (e : Entry) → content (log ++ e ∷ []) ≡ after (content log) e
-content-push log e = after_all-append nothing log (e ∷ [])
+pub content-push : (c : Content) (log : List Entry) (e : Entry) → after_all c (log ++ e ∷ []) ≡ after (after_all c log) e
+content-push c log e = after_all-append c log (e ∷ [])
 
 -- the updates of a write that fits find their old values
 write_finds_old : (c : Content) (path : List ℕ) (refs : List RefUpdate) (needed : List (List ℕ)) (added : List Added) → IsTrue (change_fits c path (Write refs needed added)) → All (λ u. value_or_zero c path u.name ≡ u.old) refs

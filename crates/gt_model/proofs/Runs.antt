@@ -1,26 +1,27 @@
--- What a run has acknowledged is in its log.
+-- At each happening of a run its state is in order, and what was acknowledged is in its log.
 use Rattle.std.proofs.Common.{ℕ, ◌≤◌, max, nat_lt, Bool, true, false, cond, List, [], ◌∷◌, ap, arith}
 use Rattle.gt_model.specs.declared.limits.Limits.{Limits}
-use Rattle.gt_model.specs.Machine.{State, front, PinsRead}
+use Rattle.gt_model.specs.Machine.{State, front, IsInOrder}
 use Rattle.gt_model.specs.Histories.{Happening, event, opened, tick, state, position, acks, last_state, acked, Happens, IsRun}
-use Rattle.gt_model.proofs.Steps.{step_grows, kept_acked, opening_grows}
+use Rattle.gt_model.proofs.Steps.{step_grows, step_acked, grown_longer, kept_acked}
+use Rattle.gt_model.proofs.Openings.{opening_part}
 
--- what is live reads the log, which is no shorter, and what was acknowledged is in it
+-- it is in order, its log is no shorter, and what was acknowledged is in it
 record Grown (old : State) (h : Happening) : Type 0 where
-  pub reads : PinsRead (state h)
+  pub order : IsInOrder (state h)
   pub log : front old ≤ front (state h)
   pub acked : acks h ≤ front (state h)
 
-happens_grows : (limits : Limits) (old : State) (h : Happening) → PinsRead old → Happens limits old h → Grown old h
-happens_grows limits old (event turn new) read (answer, step, kept_is) =
-    let g = step_grows limits old turn.event answer new read step in
-    record { reads = g.reads; log = g.log; acked = omega (arith, ap position kept_is, kept_acked old turn.event answer (front new) read g.log g.acked) }
-happens_grows limits old (opened t new) read s = let g = opening_grows old new s in record { reads = g.0; log = g.1; acked = omega arith }
+happens_grows : (limits : Limits) (old : State) (h : Happening) → IsInOrder old → Happens limits old h → Grown old h
+happens_grows limits old (event turn new) order (answer, step, kept_is) =
+    let g = step_grows limits old turn.event answer new order step in
+    let longer = grown_longer old new g in
+    record { order = g.order; log = longer; acked = omega (arith, ap position kept_is, kept_acked old turn.event answer (front new) order longer (step_acked limits old turn.event answer new order step)) }
+happens_grows limits old (opened t new) order s = let g = opening_part old new order s in record { order = g.0; log = g.1.longer; acked = omega arith }
 
--- at each happening what is live reads the log
-run_reads : (limits : Limits) (start : State) (history : List Happening) → IsRun limits start history → PinsRead (last_state start history)
-run_reads limits start [] run = run
-run_reads limits start (h ∷ older) run = (happens_grows limits (last_state start older) h (run_reads limits start older run.0) run.1).reads
+pub run_order : (limits : Limits) (start : State) (history : List Happening) → IsRun limits start history → IsInOrder (last_state start history)
+run_order limits start [] run = run
+run_order limits start (h ∷ older) run = (happens_grows limits (last_state start older) h (run_order limits start older run.0) run.1).order
 
 acked_step : (b : Bool) (n a top : ℕ) → n ≤ top → a ≤ top → max (cond b 0 n) a ≤ top
 acked_step true n a top le le2 = omega arith
@@ -30,5 +31,5 @@ acked_step false n a top le le2 = omega arith
 pub run_acked : (limits : Limits) (start : State) (history : List Happening) (m : ℕ) → IsRun limits start history → acked start history m ≤ front (last_state start history)
 run_acked limits start [] m run = omega arith
 run_acked limits start (h ∷ older) m run =
-    let g = happens_grows limits (last_state start older) h (run_reads limits start older run.0) run.1 in
+    let g = happens_grows limits (last_state start older) h (run_order limits start older run.0) run.1 in
     acked_step (nat_lt m (tick h)) (acks h) (acked start older m) (front (state h)) g.acked (omega (arith, g.log, run_acked limits start older m run.0))

@@ -1,13 +1,18 @@
 -- What has happened to a partition since it was first opened: events, and openings anew.
-use Rattle.std.specs.Prelude.{◌≡◌, ℕ, max, nat_lt, if◌then◌else◌, List, [], ◌∷◌, length, Result, Ok, Err}
+use Rattle.std.specs.Prelude.{◌≡◌, ℕ, ◌+◌, ◌≤◌, max, nat_lt, if◌then◌else◌, List, [], ◌∷◌, ◌++◌, length, map as map_list, Result, Ok, Err}
+use Rattle.std.specs.List.{flat_map}
+use Rattle.std.specs.FinMap as map
 use Rattle.gt_model.specs.declared.done.Done.{Done}
 use Rattle.gt_model.specs.declared.done.Done.TheVariants.{Created, Deleted, Linked, Begun, Committed, Finished, HouseOpen, HouseDone, Applied, Trimmed, Value, Refs, Object, Named, Staged, Checked, Aborted, Step as StepDone, Swept, Restarted}
+use Rattle.gt_model.specs.declared.entry.Entry.{Entry}
 use Rattle.gt_model.specs.declared.event.Event.{Event}
 use Rattle.gt_model.specs.declared.event.Event.TheVariants.{ListRefs, Cat}
+use Rattle.gt_model.specs.declared.reference.RefAt.{RefAt}
 use Rattle.gt_model.specs.declared.refusal.Refusal.{Refusal}
 use Rattle.gt_model.specs.declared.limits.Limits.{Limits}
 use Rattle.gt_model.specs.declared.turn.Turn.{Turn}
-use Rattle.gt_model.specs.Machine.{State, PinsRead, Step, Settles, pin_of}
+use Rattle.gt_model.specs.Contents.{Content, after_all}
+use Rattle.gt_model.specs.Machine.{State, IsInOrder, Step, Settles, pin_of, line, front}
 
 -- an event or an opening, with the state after it
 pub data Happening : Type 0 where
@@ -60,7 +65,7 @@ position (Err refusal) = 0
 -- the position that a happening acknowledges: an event that of its answer, an opening its front
 abbrev pub acks : Happening → ℕ
 acks (event turn s) = position turn.answer
-acks (opened t s) = length s.log
+acks (opened t s) = front s
 
 -- the last tick and the last state of a history; the newest happening first, the first opening aside
 abbrev pub last_tick : ℕ → List Happening → ℕ
@@ -73,7 +78,7 @@ last_state start (h ∷ older) = state h
 
 -- the greatest position that was acknowledged until this moment
 abbrev pub acked : State → List Happening → ℕ → ℕ
-acked start [] m = length start.log
+acked start [] m = front start
 acked start (h ∷ older) m = max (if nat_lt m (tick h) then 0 else acks h) (acked start older m)
 
 -- the states before and after what happens at this moment, whose lines are the two lists of the moment; after the last happening, the last one twice
@@ -87,9 +92,9 @@ abbrev pub Happens : Limits → State → Happening → Type 0
 Happens limits old (event turn new) = (answer : Result Done Refusal) × Step limits old turn.event answer new × (turn.answer ≡ kept old turn.event answer)
 Happens limits old (opened t new) = Settles old new
 
--- These happenings follow each other from the start, where each live transaction reads the log; the newest first.
+-- These happenings follow each other from a start that is in order; the newest first.
 abbrev pub IsRun : Limits → State → List Happening → Type 0
-IsRun limits start [] = PinsRead start
+IsRun limits start [] = IsInOrder start
 IsRun limits start (h ∷ older) = IsRun limits start older × Happens limits (last_state start older) h
 
 -- the events since the last opening, the newest first
@@ -97,3 +102,20 @@ abbrev pub turns : List Happening → List Turn
 turns [] = []
 turns (event turn s ∷ older) = turn ∷ turns older
 turns (opened t s ∷ older) = []
+
+-- ---- what a later state has of an earlier one
+
+-- Where entries were applied since, the base has them; the log goes on from the same entries.
+pub record IsPart (old new : State) : Type 0 where
+  pub passed : List Entry
+  pub rest : List Entry
+  pub whole : line old ≡ passed ++ (new.log ++ rest)
+  pub begin : new.begin ≡ old.begin + length passed
+  pub base : new.base ≡ after_all old.base passed
+  pub longer : front old ≤ front new
+
+-- ---- the references at an opening
+
+-- every reference of a content, ascending by repository, then by name
+abbrev pub all_refs : Content → List RefAt
+all_refs c = flat_map (λ e. map_list (λ r. record { path = e.0; name = r.0; value = r.1 }) (map.entries e.1.refs)) (map.entries c)

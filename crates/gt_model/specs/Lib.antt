@@ -1,6 +1,11 @@
 pub mod Contents
 pub mod Soundness
 pub mod Verdicts
+pub mod Needed
+pub mod Jobs
+pub mod Conflicts
+pub mod Batches
 pub mod Machine
+pub mod NamedFiles
 pub mod Histories
 pub mod Usual

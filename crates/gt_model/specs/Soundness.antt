@@ -1,10 +1,11 @@
 -- What is present: from each reference everything that is reached, and from each object everything that it needs.
-use Rattle.std.specs.Prelude.{◌≡◌, ℕ, true, IsTrue, List, [], ◌∷◌, Some, None}
+use Rattle.std.specs.Prelude.{◌≡◌, ℕ, true, IsTrue, List, [], ◌∷◌, take, Some, None}
 use Rattle.std.specs.List.{IsAmong}
 use Rattle.std.specs.FinMap as map
 use Rattle.sha1.specs.Sha1.{sha1}
 use Rattle.gt_object.specs.Whole.{deps}
-use Rattle.gt_model.specs.Contents.{Content, Repo, value, own, found, is_visible}
+use Rattle.gt_model.specs.declared.entry.Entry.{Entry}
+use Rattle.gt_model.specs.Contents.{Content, Repo, value, own, found, is_visible, after_all}
 
 -- The record that is seen under the first name mentions the second.
 pub record Needs (c : Content) (path name dep : List ℕ) : Type 0 where
@@ -32,3 +33,7 @@ pub record IsSound (c : Content) : Type 0 where
   pub named : (path name whole : List ℕ) → own c path name ≡ Some whole → sha1 whole ≡ name
   pub referred : (path ref name : List ℕ) → value c path ref ≡ Some name → IsTrue (is_visible c path name)
   pub closed : (path name dep : List ℕ) → Needs c path name dep → IsTrue (is_visible c path dep)
+
+-- The content after each front of a log is sound.
+abbrev pub AreSound : Content → List Entry → Type 0
+AreSound base log = (count : ℕ) → IsSound (after_all base (take count log))

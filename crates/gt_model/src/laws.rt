@@ -7,12 +7,6 @@ ghost use Rattle.gt_model.specs.declared.added.Added.{Added};
 ghost use Rattle.gt_model.specs.declared.change.Change.TheVariants.{Write};
 ghost use Rattle.gt_model.specs.declared.entry.Entry.{Entry};
 ghost use Rattle.gt_model.specs.declared.update.RefUpdate.{RefUpdate};
-ghost use Rattle.gt_model.specs.declared.done.Done.{Done};
-ghost use Rattle.gt_model.specs.declared.event.Event.{Event};
-ghost use Rattle.gt_model.specs.declared.limits.Limits.{Limits};
-ghost use Rattle.gt_model.specs.declared.refusal.Refusal.{Refusal};
-ghost use Rattle.gt_model.specs.Machine.{State, PinsRead, Step, front};
-ghost use Rattle.gt_model.specs.Histories.{Happening, position, last_state, acked, IsRun};
 ghost use Rattle.gt_model.specs.Contents.{key_cmp, Content, Repo, nothing, value, value_or_zero, is_visible, changed, after_all, at, IsLegal};
 ghost use Rattle.gt_model.specs.Soundness.{IsSound, Reach};
 ghost use Rattle.gt_model.specs.Verdicts.{Staged, Ready, verdict, added_records};
@@ -56,16 +50,4 @@ pub fn what_is_reached_is_present()
 pub fn legal_logs_find_old_values()
     ensures { (c : Content) (position : ℕ) (one two : List Entry) (e : Entry) (refs : List RefUpdate) (needed : List (List ℕ)) (added : List Added) → e.change ≡ Write refs needed added
         → IsLegal c position (one ++ e ∷ two) → All (λ u. value_or_zero (after_all c one) e.path u.name ≡ u.old) refs }
-{}
-
-/// A step never shortens the log, what it leaves live reads a position of the log, and the position that it acknowledges is in the log.
-pub fn steps_only_grow()
-    ensures reads { (limits : Limits) (old new : State) (event : Event) (answer : Result Done Refusal) → PinsRead old → Step limits old event answer new → PinsRead new }
-    ensures log { (limits : Limits) (old new : State) (event : Event) (answer : Result Done Refusal) → PinsRead old → Step limits old event answer new → front old ≤ front new }
-    ensures acked { (limits : Limits) (old new : State) (event : Event) (answer : Result Done Refusal) → PinsRead old → Step limits old event answer new → position answer ≤ front new }
-{}
-
-/// What a run has acknowledged until a moment is in the log at its end.
-pub fn runs_keep_what_they_acknowledged()
-    ensures { (limits : Limits) (start : State) (history : List Happening) (m : ℕ) → IsRun limits start history → acked start history m ≤ front (last_state start history) }
 {}

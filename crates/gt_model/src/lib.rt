@@ -12,6 +12,7 @@ mod job;
 mod laws;
 mod limits;
 mod look;
+mod machine_laws;
 mod needer;
 mod reference;
 mod refusal;
@@ -30,11 +31,12 @@ pub use event::Event;
 pub use job::Job;
 pub use laws::{
     contents_add_up, good_commits_keep_contents_sound, later_entries_leave_earlier_positions,
-    legal_logs_find_old_values, legal_logs_have_legal_fronts, runs_keep_what_they_acknowledged,
-    steps_only_grow, what_is_reached_is_present, writes_leave_other_references,
+    legal_logs_find_old_values, legal_logs_have_legal_fronts, what_is_reached_is_present,
+    writes_leave_other_references,
 };
 pub use limits::Limits;
 pub use look::Look;
+pub use machine_laws::{openings_are_parts, runs_keep_what_they_acknowledged, steps_only_grow};
 pub use needer::Needer;
 pub use reference::{RefAt, RefList, RefValue, RefsAt};
 pub use refusal::Refusal;
