@@ -132,7 +132,7 @@ abbrev pub named : List Added → FinMap key_cmp Added
 named records = map.from_entries (map_list (λ a. (a.name, a)) records)
 
 -- each stands under its name
-entries_named : (P : Added → Type 0) (records : List Added) → AllByRecursion P records → AllByRecursion (λ e. (e.1.name ≡ e.0) × P e.1) (map.entries (named records))
+pub entries_named : (P : Added → Type 0) (records : List Added) → AllByRecursion P records → AllByRecursion (λ e. (e.1.name ≡ e.0) × P e.1) (map.entries (named records))
 entries_named P [] h = subst (λ (es : List (List ℕ × Added)). AllByRecursion (λ e. (e.1.name ≡ e.0) × P e.1) es) (sym (entries-empty Added)) tt
 entries_named P (a ∷ rest) h =
     subst (λ (es : List (List ℕ × Added)). AllByRecursion (λ e. (e.1.name ≡ e.0) × P e.1) es) (sym (entries-insert nat_list_cmp_total (named rest) a.name a))
@@ -147,7 +147,7 @@ pub every_added : (c : Content) (path : List ℕ) (s : Staged) (P : Added → Ty
 every_added c path s P h = every_filter P _ (by_name s.records) (every_value P (map.entries (named s.records)) (entries_named P s.records h))
 
 -- a staged name has an entry
-find_staged : (name : List ℕ) (records : List Added) → list_any (λ a. same_name a.name name) records ≡ true → IsTrue (is_some (map.find key_cmp name (map_list (λ a. (a.name, a)) records)))
+pub find_staged : (name : List ℕ) (records : List Added) → list_any (λ a. same_name a.name name) records ≡ true → IsTrue (is_some (map.find key_cmp name (map_list (λ a. (a.name, a)) records)))
 find_staged name [] e = absurd (true≢false (sym e))
 find_staged name (a ∷ rest) e = by (find_staged name rest) (same_name a.name name) refl e
   where

@@ -1,5 +1,9 @@
 pub mod Checks
+pub mod Decided
+pub mod Faults
 pub mod Logs
+pub mod Members
+pub mod Needs
 pub mod Repositories
 pub mod Openings
 pub mod Runs

@@ -9,6 +9,7 @@ ghost use Rattle.gt_model.specs.declared.entry.Entry.{Entry};
 ghost use Rattle.gt_model.specs.declared.update.RefUpdate.{RefUpdate};
 ghost use Rattle.gt_model.specs.Contents.{key_cmp, Content, Repo, nothing, value, value_or_zero, is_visible, changed, after_all, at, IsLegal};
 ghost use Rattle.gt_model.specs.Soundness.{IsSound, Reach};
+ghost use Rattle.gt_model.specs.Needed.{HasNeeded};
 ghost use Rattle.gt_model.specs.Verdicts.{Staged, Ready, verdict, added_records};
 
 /// The content after two logs, one behind the other, is that after the second on top of that after the first.
@@ -50,4 +51,10 @@ pub fn what_is_reached_is_present()
 pub fn legal_logs_find_old_values()
     ensures { (c : Content) (position : ℕ) (one two : List Entry) (e : Entry) (refs : List RefUpdate) (needed : List (List ℕ)) (added : List Added) → e.change ≡ Write refs needed added
         → IsLegal c position (one ++ e ∷ two) → All (λ u. value_or_zero (after_all c one) e.path u.name ≡ u.old) refs }
+{}
+
+/// A commit whose verdict is good says what it needs: each new value and each name that an added record mentions, but for what it adds itself.
+pub fn good_commits_say_what_they_need()
+    ensures { (c : Content) (path : List ℕ) (s : Staged) (ready : Ready) (position : ℕ) → verdict c path s ≡ Ok ready
+        → HasNeeded (record { position = position; path = path; change = Write ready.refs ready.needed (added_records c path s) }) }
 {}
