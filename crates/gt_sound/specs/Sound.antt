@@ -1,18 +1,21 @@
--- Logs whose contents are sound, and commits whose records have their names.
+-- States whose contents are sound, and the events that are known to leave them so.
 use Rattle.std.specs.Prelude.{◌≡◌, ℕ, List}
 use Rattle.std.specs.List.{All}
 use Rattle.sha1.specs.Sha1.{sha1}
-use Rattle.gt_model.specs.declared.entry.Entry.{Entry}
 use Rattle.gt_model.specs.declared.event.Event.{Event}
-use Rattle.gt_model.specs.declared.event.Event.TheVariants.{Commit}
-use Rattle.gt_model.specs.Contents.{nothing, at}
-use Rattle.gt_model.specs.Soundness.{IsSound}
+use Rattle.gt_model.specs.declared.event.Event.TheVariants.{Link, Commit, HouseCommit}
+use Rattle.gt_model.specs.Soundness.{AreSound}
+use Rattle.gt_model.specs.Needed.{AreNeeded}
+use Rattle.gt_model.specs.Machine.{State, line}
 
--- The content at each position of a log is sound.
-abbrev pub AreSound : List Entry → Type 0
-AreSound log = (position : ℕ) → IsSound (at 0 nothing log position)
+-- The content after each front of the log with its doubt last is sound, and each entry says what it needs.
+pub record IsSoundState (s : State) : Type 0 where
+  pub contents : AreSound s.base (line s)
+  pub needed : AreNeeded (line s)
 
--- The records of a commit have their names. Any other event brings none.
-abbrev pub IsNamed : Event → Type 0
-IsNamed (Commit pin refs records) = All (λ a. sha1 a.whole ≡ a.name) records
-IsNamed event = Unit {0}
+-- The records of a commit have their names. Links and commits of jobs aren't known yet; no call makes one. Any other event brings no record.
+abbrev pub IsKnown : Event → Type 0
+IsKnown (Commit pin refs records) = All (λ a. sha1 a.whole ≡ a.name) records
+IsKnown (Link path pool) = ⊥
+IsKnown (HouseCommit pin) = ⊥
+IsKnown event = Unit {0}

@@ -5,6 +5,6 @@
 mod laws;
 
 pub use laws::{
-    fronts_of_sound_logs_are_sound, openings_keep_contents_sound, steps_keep_contents_sound,
+    openings_keep_states_sound, parts_of_sound_states_are_sound, steps_keep_states_sound,
     the_empty_log_is_sound,
 };
