@@ -5,13 +5,12 @@ use Rattle.gt_model.specs.declared.entry.Entry.{Entry}
 use Rattle.std.specs.FinMap as map
 use Rattle.std.specs.FinMap.{get-empty}
 use Rattle.gt_model.specs.Contents.{key_cmp, Repo, Content, nothing, after_all, at, is_visible, least_member}
-use Rattle.gt_model.specs.Machine.{content}
 use Rattle.gt_model.specs.Verdicts.{refs_in}
 use Rattle.gt_objset.specs.Agree as objects
 use Rattle.gt_objset.specs.Table as objects_table
 use Rattle.gt_reftable.specs.Agree as refs
 use Rattle.gt_reftable.specs.Table as refs_table
-use Rattle.gt_table.specs.Table.{Tables, Follow, nowhere, content_at}
+use Rattle.gt_table.specs.Table.{Tables, Follow, nowhere, content, content_at}
 
 -- the content at the position of the last entry is that of the whole log
 pub at_front : (log : List Entry) → content_at log (length log) ≡ content log

@@ -4,7 +4,7 @@ use Rattle.std.specs.Coded.{Coded, code_by, coded×, coded_ℕ, coded_list}
 use Rattle.std.proofs.Common.{refl}
 use Rattle.gt_model.specs.contracts.entry.Entry as entry
 use Rattle.gt_model.specs.declared.entry.Entry.{Entry}
-use Rattle.gt_model.specs.Contents.{Content, nothing, at}
+use Rattle.gt_model.specs.Contents.{Content, nothing, after_all, at}
 use Rattle.gt_objset.specs.Agree as objects
 use Rattle.gt_objset.specs.Places.{head_in, seen, places_at}
 use Rattle.gt_objset.specs.Table as objects_table
@@ -41,7 +41,11 @@ pub record HasRoomFor (entry : Entry) (t : Tables) : Type 0 where
   pub refs : refs_table.IsPrepared t.refs entry
   pub objects : objects_table.IsPrepared t.objects entry
 
--- the content at a position of a log
+-- the content at the front of a log of which nothing has been applied
+abbrev pub content : List Entry → Content
+content log = after_all nothing log
+
+-- the content at a position of such a log
 abbrev pub content_at : List Entry → ℕ → Content
 content_at log position = at 0 nothing log position
 

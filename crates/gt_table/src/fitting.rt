@@ -1,8 +1,8 @@
 ghost use Rattle.std.specs.Prelude.{◌≡◌, not};
 ghost use Rattle.std.specs.List.{list_all};
 ghost use Rattle.gt_model.specs.Contents.{fits, finds_old, is_visible, value_or_zero};
-ghost use Rattle.gt_model.specs.Machine.{content};
 ghost use Rattle.gt_table.specs.Built.{IsBuilt};
+ghost use Rattle.gt_table.specs.Table.{content};
 
 use crate::Table;
 use gt_model::{Added, Change, Entry, Look, RefUpdate};

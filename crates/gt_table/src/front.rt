@@ -1,4 +1,4 @@
-ghost use Rattle.gt_model.specs.Machine.{content};
+ghost use Rattle.gt_table.specs.Table.{content};
 
 use crate::Table;
 use gt_model::Look;

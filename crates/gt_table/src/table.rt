@@ -1,9 +1,9 @@
 ghost use Rattle.std.specs.Prelude.{◌≡◌, ◌≤◌, ◌+◌, ◌++◌, ◌∷◌, [], length, is_some, IfOk, OnOk, IsTrue};
 ghost use Rattle.std.specs.Option.{option_copied};
 ghost use Rattle.gt_model.specs.Contents.{value, is_visible, has_repo, least_member, fits};
-ghost use Rattle.gt_model.specs.Machine.{content, references};
+ghost use Rattle.gt_model.specs.Machine.{references};
 ghost use Rattle.gt_model.specs.Verdicts.{clash, refs_in};
-ghost use Rattle.gt_table.specs.Table.{HasRoomFor, content_at, place_at};
+ghost use Rattle.gt_table.specs.Table.{HasRoomFor, content, content_at, place_at};
 
 use gt_list::{NoMemory, Roomy};
 use gt_model::{Entry, RefList};

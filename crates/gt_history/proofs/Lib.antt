@@ -1,0 +1,3 @@
+pub mod Parts
+pub mod Safe
+pub mod Runs

@@ -1,0 +1,27 @@
+-- A history that goes on.
+use Rattle.std.specs.Prelude.{◌≡◌, ℕ, ◌≤◌, List, reverse, Result}
+use Rattle.gt_disk.specs.declared.file_id.FileId.{FileId}
+use Rattle.gt_disk.specs.Files.{Files, States, View, now}
+use Rattle.gt_disk.specs.Moments.{Since}
+use Rattle.gt_model.specs.declared.limits.Limits.{Limits}
+use Rattle.gt_model.specs.declared.turn.Turn.{Turn}
+use Rattle.gt_model.specs.Machine.{State, Recovered}
+use Rattle.gt_model.specs.Histories.{Happening, turns, last_state, last_tick}
+use Rattle.gt_history.specs.Crash.{GivesEither, Run}
+
+-- What was told of the past stands.
+pub record KeepsPast (old new : View) : Type 0 where
+  pub clock : old.clock ≤ new.clock
+  pub at : (m : ℕ) → m ≤ old.clock → new.at m ≡ old.at m
+
+module _ {B : Type 0} (recover : Files → Result Recovered B) (Keeps : Recovered → States → Type 0) (counters : List FileId) (Stored : State → States → Type 0) where
+  -- An event leaves the new state in the files, and at each of its moments each image gives the old state or the new one.
+  abbrev pub Moves : State → State → View → View → Type 0
+  Moves old new v w = Stored old (now v) → Stored new (now w) × Since (GivesEither recover Keeps counters old new) v w
+
+  -- The history leads from the start to a state that the files have now. The trail is its events since the last opening.
+  pub record IsHistory (limits : Limits) (start : State) (begin : ℕ) (history : List Happening) (view : View) (trail : List Turn) : Type 0 where
+    pub stored : Stored (last_state start history) (now view)
+    pub run : Run recover Keeps counters limits start begin view.at history
+    pub events : turns history ≡ reverse trail
+    pub clock : last_tick begin history ≡ view.clock
