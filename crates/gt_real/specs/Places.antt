@@ -6,6 +6,10 @@ use Rattle.gt_real.specs.declared.place.Place.{Place}
 abbrev pub is_out_at : List Place → ℕ → Bool
 is_out_at places n = option_map_or (λ place. place.is_out) (slice_get places n) false
 
+-- the clock of the disk of this number
+abbrev pub clock_at : List Place → ℕ → ℕ
+clock_at places n = option_map_or (λ place. place.changes) (slice_get places n) 0
+
 -- the count of faults of the disk of this number
 abbrev pub faults_at : List Place → ℕ → ℕ
 faults_at places n = option_map_or (λ place. place.faults) (slice_get places n) 0

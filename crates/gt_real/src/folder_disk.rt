@@ -1,5 +1,6 @@
-ghost use Rattle.std.specs.Prelude.{◌≡◌, ◌≤◌, ◌↔◌, IfOk, IfSome, IsOk, IsErr, length, true, false};
+ghost use Rattle.std.specs.Prelude.{◌≡◌, ◌≤◌, ◌<◌, ◌↔◌, IfOk, IfSome, OnOk, IsOk, IsErr, length, true, false};
 ghost use Rattle.gt_disk.specs.Files.{IsPast};
+ghost use Rattle.gt_real.specs.Untold.{untold};
 
 use crate::counting::{counted, counted_change};
 use crate::filling::fill;
@@ -14,7 +15,8 @@ use std::fs::{File, OpenFile, remove_file};
 use std::io::{Error, ErrorKind, Seek, SeekFrom, Write};
 use std::rt::Files;
 
-/// A folder as a disk: one file for each, named `<kind>-<number>` in decimal. It tells nothing of content.
+/// A folder as a disk: one file for each, named `<kind>-<number>` in decimal. It tells nothing of content. Its clock counts the
+/// changes that were begun, and where the clock is at its end no more can be.
 ///
 /// As long as it is open nobody else opens the folder as a disk, in this process or another one: the folder is locked, and the
 /// system takes the lock away with the process. After a sync that failed each later change and sync fails: what the system
@@ -31,6 +33,7 @@ pub struct FolderDisk<R: Files<File = File> + Eprint + AllocGlobal + Clone + Dro
     names: Option<Names>,
     has_failed_sync: bool,
     faults: u64,
+    changes: u64,
 }
 
 // The length of the longest file that the system can seek in, and 1.
@@ -42,12 +45,18 @@ impl<R: Files<File = File> + Eprint + AllocGlobal + Clone + Drop> FolderDisk<R> 
     pub fn open(rt: R, path: String) -> Result<FolderDisk<R>, Failed>
         ensures { IfOk result (λ disk. ⟦<FolderDisk<R> as Disk>⟧.fault_count disk ≡ 0) }
     {
-        FolderDisk::open_counted(rt, path, 0)
+        FolderDisk::open_counted(rt, path, 0, 0)
     }
 
-    /// As `open`, with this many faults so far.
-    pub(crate) fn open_counted(rt: R, path: String, faults: u64) -> Result<FolderDisk<R>, Failed>
-        ensures { IfOk result (λ disk. ⟦<FolderDisk<R> as Disk>⟧.fault_count disk ≡ faults) }
+    /// As `open`, with this many faults and changes so far.
+    pub(crate) fn open_counted(
+        rt: R,
+        path: String,
+        faults: u64,
+        changes: u64,
+    ) -> Result<FolderDisk<R>, Failed>
+        ensures count { IfOk result (λ disk. ⟦<FolderDisk<R> as Disk>⟧.fault_count disk ≡ faults) }
+        ensures view { IfOk result (λ disk. ⟦<FolderDisk<R> as Disk>⟧.view disk ≡ untold changes) }
     {
         let owned = owned_folder(&rt, path.as_str());
         tell(&rt, path.as_str(), &owned);
@@ -61,13 +70,14 @@ impl<R: Files<File = File> + Eprint + AllocGlobal + Clone + Drop> FolderDisk<R> 
                 names: None,
                 has_failed_sync: false,
                 faults,
+                changes,
             }),
             Err(_) => Err(Failed),
         }
     }
 
     // Whether a change can still be made to last.
-    fn may_change(&self) -> Result<(), Trouble>
+    fn may_last(&self) -> Result<(), Trouble>
         ensures { IsOk result ↔ (self.now.has_failed_sync ≡ false) }
     {
         if self.has_failed_sync {
@@ -78,6 +88,26 @@ impl<R: Files<File = File> + Eprint + AllocGlobal + Clone + Drop> FolderDisk<R> 
             });
         }
         Ok(())
+    }
+
+    // Counts a change that can be made to last.
+    fn begin_change(&mut self) -> Result<(), Trouble>
+        ensures same { (self.new.faults ≡ self.old.faults) × (self.new.has_failed_sync ≡ self.old.has_failed_sync) }
+        ensures later { self.old.changes ≤ self.new.changes }
+        ensures moves { OnOk result (self.old.changes < self.new.changes) }
+        ensures refused { self.old.has_failed_sync ≡ true → IsErr result }
+    {
+        self.may_last()?;
+        match self.changes.checked_add(1) {
+            Some(changes) => {
+                self.changes = changes;
+                Ok(())
+            }
+            None => Err(Trouble {
+                call: "change",
+                error: Error::other("the clock of this disk is at its end"),
+            }),
+        }
     }
 
     fn try_len(&self, file: FileId) -> Result<Option<u64>, Trouble> {
@@ -116,9 +146,11 @@ impl<R: Files<File = File> + Eprint + AllocGlobal + Clone + Drop> FolderDisk<R> 
 
     fn try_write(&mut self, path: &str, file: FileId, bytes: &[u8]) -> Result<(), Trouble>
         ensures same { self.new.faults ≡ self.old.faults }
+        ensures later { self.old.changes ≤ self.new.changes }
+        ensures moves { OnOk result (self.old.changes < self.new.changes) }
         ensures refused { self.old.has_failed_sync ≡ true → IsErr result }
     {
-        self.may_change()?;
+        self.begin_change()?;
         let kept = replaced(&self.rt, path, file, bytes)?;
         self.replaced = Some(kept);
         Ok(())
@@ -126,9 +158,11 @@ impl<R: Files<File = File> + Eprint + AllocGlobal + Clone + Drop> FolderDisk<R> 
 
     fn try_append(&mut self, path: &str, file: FileId, bytes: &[u8]) -> Result<(), Trouble>
         ensures same { self.new.faults ≡ self.old.faults }
+        ensures later { self.old.changes ≤ self.new.changes }
+        ensures moves { OnOk result (self.old.changes < self.new.changes) }
         ensures refused { self.old.has_failed_sync ≡ true → IsErr result }
     {
-        self.may_change()?;
+        self.begin_change()?;
         let mut kept = match self.appended.take() {
             Some(kept) if kept.is_of(file) => kept,
             _ => opened_to_append(&self.rt, path, file)?,
@@ -140,11 +174,11 @@ impl<R: Files<File = File> + Eprint + AllocGlobal + Clone + Drop> FolderDisk<R> 
 
     // After it a stop leaves the file and its name, or leaves it absent where it is absent.
     fn try_sync(&mut self, file: FileId) -> Result<(), Trouble>
-        ensures same { self.new.faults ≡ self.old.faults }
+        ensures same { (self.new.faults ≡ self.old.faults) × (self.new.changes ≡ self.old.changes) }
         ensures kept { self.new.has_failed_sync ≡ self.old.has_failed_sync }
         ensures refused { self.old.has_failed_sync ≡ true → IsErr result }
     {
-        self.may_change()?;
+        self.may_last()?;
         if let Some(kept) = &mut self.appended {
             if kept.is_of(file) {
                 during("sync", kept.open.sync_all())?;
@@ -175,7 +209,7 @@ impl<R: Files<File = File> + Eprint + AllocGlobal + Clone + Drop> FolderDisk<R> 
 
     // A sync that fails is remembered.
     fn sync_once(&mut self, file: FileId) -> Result<(), Trouble>
-        ensures same { self.new.faults ≡ self.old.faults }
+        ensures same { (self.new.faults ≡ self.old.faults) × (self.new.changes ≡ self.old.changes) }
         ensures remembered { IsErr result → self.new.has_failed_sync ≡ true }
         ensures refused { self.old.has_failed_sync ≡ true → IsErr result }
     {
@@ -186,10 +220,13 @@ impl<R: Files<File = File> + Eprint + AllocGlobal + Clone + Drop> FolderDisk<R> 
         answer
     }
 
-    fn try_remove(&self, file: FileId) -> Result<(), Trouble>
-        ensures refused { self.now.has_failed_sync ≡ true → IsErr result }
+    fn try_remove(&mut self, file: FileId) -> Result<(), Trouble>
+        ensures same { self.new.faults ≡ self.old.faults }
+        ensures later { self.old.changes ≤ self.new.changes }
+        ensures moves { OnOk result (self.old.changes < self.new.changes) }
+        ensures refused { self.old.has_failed_sync ≡ true → IsErr result }
     {
-        self.may_change()?;
+        self.begin_change()?;
         let path = during("name", path_of(self.rt.alloc(), self.path.as_str(), file))?;
         unless_absent("remove", remove_file(&self.rt, path.as_str()))?;
         Ok(())
@@ -197,7 +234,7 @@ impl<R: Files<File = File> + Eprint + AllocGlobal + Clone + Drop> FolderDisk<R> 
 
     fn try_list(&mut self, after: Option<FileId>) -> Result<Option<FileId>, Trouble>
         ensures past { IfOk result (λ next. IfSome next (IsPast after)) }
-        ensures same { self.new.faults ≡ self.old.faults }
+        ensures same { (self.new.faults ≡ self.old.faults) × (self.new.changes ≡ self.old.changes) }
     {
         if let Some(names) = &self.names {
             return Ok(names.next(after));
@@ -210,7 +247,7 @@ impl<R: Files<File = File> + Eprint + AllocGlobal + Clone + Drop> FolderDisk<R> 
 
     // The names after a change that should have left this file there. After a failed one the folder is read again.
     fn note_there(&mut self, file: FileId, is_sure: bool)
-        ensures { self.new.faults ≡ self.old.faults }
+        ensures { (self.new.faults ≡ self.old.faults) × (self.new.changes ≡ self.old.changes) }
     {
         if let Some(mut names) = self.names.take() {
             if is_sure && names.add(file).is_ok() {
@@ -221,7 +258,7 @@ impl<R: Files<File = File> + Eprint + AllocGlobal + Clone + Drop> FolderDisk<R> 
 
     // The names after a change that should have left this file absent.
     fn note_absent(&mut self, file: FileId, is_sure: bool)
-        ensures { self.new.faults ≡ self.old.faults }
+        ensures { (self.new.faults ≡ self.old.faults) × (self.new.changes ≡ self.old.changes) }
     {
         self.replaced = other_than(self.replaced.take(), file);
         self.appended = other_than(self.appended.take(), file);
@@ -236,18 +273,16 @@ impl<R: Files<File = File> + Eprint + AllocGlobal + Clone + Drop> FolderDisk<R> 
 
 impl<R: Files<File = File> + Eprint + AllocGlobal + Clone + Drop> Disk for FolderDisk<R> {
     ghost use Rattle.std.specs.Prelude.{false, refl};
-    ghost use Rattle.gt_real.specs.Untold.{untold};
-
     ghost tells = { false };
 
-    ghost view = { λ _. untold };
+    ghost view = { λ disk. untold disk.changes };
 
     ghost fault_count = { λ disk. disk.faults };
 
     ghost shows = { λ _ _. λ _. refl };
 
     fn tick(&self) -> u64 {
-        0
+        self.changes
     }
 
     fn faults(&self) -> u64 {

@@ -34,9 +34,12 @@ impl<R: Files<File = File> + Eprint + AllocGlobal + Clone + Drop> FolderHost<R> 
         }
     }
 
+    ghost use Rattle.gt_real.specs.Untold.{untold};
+
     // Opens the folder of a disk, and makes it and the folder of the disks where they are absent.
-    fn opened(&self, number: u8, faults: u64) -> Result<FolderDisk<R>, Failed>
-        ensures { IfOk result (λ disk. ⟦<FolderDisk<R> as Disk>⟧.fault_count disk ≡ faults) }
+    fn opened(&self, number: u8, place: Place) -> Result<FolderDisk<R>, Failed>
+        ensures count { IfOk result (λ disk. ⟦<FolderDisk<R> as Disk>⟧.fault_count disk ≡ place.faults) }
+        ensures view { IfOk result (λ disk. ⟦<FolderDisk<R> as Disk>⟧.view disk ≡ untold place.changes) }
     {
         let path = self.path.as_str();
         let made = make_folder(&self.rt, path);
@@ -45,7 +48,7 @@ impl<R: Files<File = File> + Eprint + AllocGlobal + Clone + Drop> FolderHost<R> 
         tell(&self.rt, path, &named);
         let shared: Result<R, _> = self.rt.clone();
         match (made, named, shared) {
-            (Ok(()), Ok(path), Ok(rt)) => FolderDisk::open_counted(rt, path, faults),
+            (Ok(()), Ok(path), Ok(rt)) => FolderDisk::open_counted(rt, path, place.faults, place.changes),
             _ => Err(Failed),
         }
     }
@@ -54,7 +57,7 @@ impl<R: Files<File = File> + Eprint + AllocGlobal + Clone + Drop> FolderHost<R> 
 impl<R: Files<File = File> + Eprint + AllocGlobal + Clone + Drop> Host for FolderHost<R> {
     type D = FolderDisk<R>;
 
-    ghost use Rattle.gt_real.specs.Places.{is_out_at, faults_at};
+    ghost use Rattle.gt_real.specs.Places.{is_out_at, faults_at, clock_at};
     ghost use Rattle.gt_real.specs.Untold.{untold};
 
     ghost faults = { λ host. host.faults };
@@ -63,12 +66,12 @@ impl<R: Files<File = File> + Eprint + AllocGlobal + Clone + Drop> Host for Folde
 
     ghost disk_faults = { λ host n. faults_at host.places n };
 
-    ghost disk_view = { λ _ _. untold };
+    ghost disk_view = { λ host n. untold (clock_at host.places n) };
 
     fn take(&mut self, number: u8) -> Result<FolderDisk<R>, Failed> {
         let index = usize::from(number);
         if index < DISKS {
-            if let Ok(disk) = self.opened(number, self.places[index].faults) {
+            if let Ok(disk) = self.opened(number, self.places[index]) {
                 self.places[index].is_out = true;
                 return Ok(disk);
             }
@@ -83,6 +86,7 @@ impl<R: Files<File = File> + Eprint + AllocGlobal + Clone + Drop> Host for Folde
             self.places[index] = Place {
                 is_out: false,
                 faults: disk.faults(),
+                changes: disk.tick(),
             };
         }
     }
