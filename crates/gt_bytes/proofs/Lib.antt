@@ -6,3 +6,4 @@ pub mod ListLaws
 pub mod WhileLaws
 pub mod Loops
 pub mod WholeLaws
+pub mod Fronts

@@ -1,5 +1,5 @@
 -- What the code's answer says of a reader of specs/Reading.antt.
-use Rattle.std.specs.Prelude.{◌≡◌, ℕ, ◌≤◌, List, Result, Ok, Err, slice_range}
+use Rattle.std.specs.Prelude.{◌≡◌, ℕ, ◌≤◌, List, Result, Ok, Err, IsOk, slice_range}
 use Rattle.gt_bytes.specs.declared.short.Short.{Short}
 use Rattle.gt_bytes.specs.declared.error.FieldError.{FieldError}
 use Rattle.gt_bytes.specs.declared.error.FieldError.TheVariants.{BadField, Memory}
@@ -37,6 +37,11 @@ Fails (BadField at) read = read ≡ Err at
 abbrev pub Gives : {A : Type 0} → Result A FieldError → Result A ℕ → Type 0
 Gives (Ok x) read = read ≡ Ok x
 Gives (Err e) read = Fails e read
+
+-- Memory ran out only where this is read.
+abbrev pub MemoryAfter : {A B : Type 0} → Result A FieldError → Result B ℕ → Type 0
+MemoryAfter (Ok x) read = Unit {0}
+MemoryAfter (Err e) read = e ≡ Memory → IsOk read
 
 -- The place after the field is no further than the end of the bytes.
 abbrev pub Within : {A : Type 0} → Result (A × ℕ) FieldError → ℕ → Type 0

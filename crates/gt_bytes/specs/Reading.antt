@@ -62,6 +62,10 @@ text_at bytes at = do
 abbrev pub counted_at : {A : Type 0} → (List A → ℕ → Result (A × ℕ) ℕ) → List ℕ → ℕ → Result (List A × ℕ) ℕ
 counted_at item bytes at = number_at w32 bytes at >>= λ n. many_at item n.0 [] n.1
 
+-- the first item of such a list, which has to have one
+abbrev pub first_at : {A : Type 0} → (List A → ℕ → Result (A × ℕ) ℕ) → List ℕ → ℕ → Result (A × ℕ) ℕ
+first_at item bytes at = number_at w32 bytes at >>= λ n. if n.0 == 0 then Err n.1 else item [] n.1
+
 -- these very bytes, as the word that a file begins with
 abbrev pub word_at : List ℕ → List ℕ → ℕ → Result (Unit {0} × ℕ) ℕ
 word_at word bytes at = if starts_with nat_eq (drop at bytes) word then Ok (tt, at + length word) else Err at

@@ -1,5 +1,6 @@
-ghost use Rattle.std.specs.Prelude.{◌≡◌, ◌≤◌, ◌++◌, ℕ, List, Result, length, OnOk};
-ghost use Rattle.gt_bytes.specs.Answers.{Gives, Within};
+ghost use Rattle.std.specs.Prelude.{◌≡◌, ◌≤◌, ◌++◌, ℕ, List, Result, length, OnOk, OnErr};
+ghost use Rattle.gt_bytes.specs.Answers.{Gives, Within, MemoryAfter};
+ghost use Rattle.gt_bytes.specs.Spelling.{IsFront};
 
 use crate::FieldError;
 use gt_list::NoMemory;
@@ -23,7 +24,9 @@ pub trait Item {
     ) -> Result<(Self::Value, usize), FieldError>
         requires { at ≤ length bytes.now }
         ensures within { Within result (length bytes.now) }
-        ensures value { Gives result (item_at bytes.now before.now at) };
+        ensures value { Gives result (item_at bytes.now before.now at) }
+        // Memory is wanted only for what may stand there.
+        ensures memory { MemoryAfter result (item_at bytes.now before.now at) };
 
     // The one spelling of an item.
     ghost spell: { Self.Value → List ℕ };
@@ -31,8 +34,9 @@ pub trait Item {
     // Whether it has a spelling.
     ghost may_put: { Self.Value → Type 0 };
 
-    /// Appends an item. After an error a part of it may stand at the end of `out`.
+    /// Appends an item. After an error `out` is what it was, and behind that a part of the item may stand.
     fn put(out: &mut Vec<u8>, value: &Self::Value) -> Result<(), NoMemory>
         requires { may_put value.now }
-        ensures { OnOk result (out.new.items ≡ out.old.items ++ spell value.now) };
+        ensures ok { OnOk result (out.new.items ≡ out.old.items ++ spell value.now) }
+        ensures err { OnErr result (IsFront out.old.items out.new.items) };
 }

@@ -1,22 +1,22 @@
 ghost use Rattle.std.specs.Prelude.{◌≤◌, length};
 ghost use Rattle.gt_bytes.specs.Reading.{word_at};
-ghost use Rattle.gt_bytes.specs.Answers.{Gives, Within};
+ghost use Rattle.gt_bytes.specs.Answers.{EndsWithin, Reads};
 
-use crate::FieldError;
+use crate::Short;
 
-/// The place after this word, where its bytes stand at this place, as at the begin of a file. `BadField` there exactly where
-/// they don't. It takes no memory.
-pub fn read_word(word: &[u8], bytes: &[u8], at: usize) -> Result<((), usize), FieldError>
+/// The place after this word, where its bytes stand at this place, as at the begin of a file. `Short` exactly where they
+/// don't.
+pub fn read_word(word: &[u8], bytes: &[u8], at: usize) -> Result<((), usize), Short>
     requires { at ≤ length bytes.now }
-    ensures within { Within result (length bytes.now) }
-    ensures value { Gives result (word_at word.now bytes.now at) }
+    ensures within { EndsWithin result (length bytes.now) }
+    ensures value { Reads result (word_at word.now bytes.now at) }
 {
     let (_, rest) = bytes.split_at(at);
     if !rest.starts_with(word) {
-        return Err(FieldError::BadField { at });
+        return Err(Short { at });
     }
     if rest.len() < word.len() {
-        return Err(FieldError::BadField { at });
+        return Err(Short { at });
     }
     Ok(((), at + word.len()))
 }

@@ -124,6 +124,10 @@ version_at bytes at =
     else if starts_with nat_eq (drop at bytes) (codes "GTE2") then Ok (Second, at + 4)
     else Err at
 
+-- the fields before the change, of which the path is the first that takes memory
+abbrev pub front_at : List ℕ → ℕ → Result ((ℕ × List ℕ) × ℕ) ℕ
+front_at bytes at = version_at bytes at >>= λ v. pair_at (number_at w64 bytes) (path_at bytes) v.1
+
 abbrev pub to_entry : ℕ × (List ℕ × Change) → Entry
 to_entry x = record { position = x.0; path = x.1.0; change = x.1.1 }
 

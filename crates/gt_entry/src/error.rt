@@ -1,8 +1,8 @@
 ghost use Rattle.std.specs.Prelude.{◌≡◌};
 ghost use Rattle.gt_entry.specs.Answers.{Turns};
-ghost use Rattle.gt_entry.specs.declared.error.EntryError.TheVariants.{Memory};
+ghost use Rattle.gt_entry.specs.declared.error.EntryError.TheVariants.{BadEntry, Memory};
 
-use gt_bytes::FieldError;
+use gt_bytes::{FieldError, Short};
 use gt_list::NoMemory;
 use std::alloc::{AllocError, AllocFailed};
 
@@ -23,6 +23,14 @@ impl From<FieldError> for EntryError {
             FieldError::BadField { at } => EntryError::BadEntry { at },
             FieldError::Memory => EntryError::Memory,
         }
+    }
+}
+
+impl From<Short> for EntryError {
+    ghost from_gives = { λ s e. e ≡ BadEntry s.at };
+
+    fn from(short: Short) -> EntryError {
+        EntryError::BadEntry { at: short.at }
     }
 }
 

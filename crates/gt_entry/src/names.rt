@@ -1,4 +1,4 @@
-ghost use Rattle.std.specs.Prelude.{◌≡◌, ◌≤◌, ◌++◌, length, OnOk};
+ghost use Rattle.std.specs.Prelude.{◌≡◌, ◌≤◌, ◌++◌, length, OnOk, OnErr};
 ghost use Rattle.std.specs.List.{All};
 ghost use Rattle.gt_bytes.specs.Answers.{Gives, Within};
 ghost use Rattle.gt_bytes.specs.Spelling.{counted};
@@ -56,6 +56,7 @@ impl Item for AscendingNames {
 /// Appends the name of an object.
 pub(crate) fn put_id(out: &mut Vec<u8>, name: &Name) -> Result<(), NoMemory>
     ensures spelled { OnOk result (out.new.items ≡ out.old.items ++ name.now) }
+    ensures err { OnErr result (out.new.items ≡ out.old.items) }
     ensures typed { IsName name.now }
 {
     law_name(name);

@@ -1,8 +1,9 @@
 ghost use Rattle.std.specs.Prelude.{◌≡◌, ◌≤◌, length};
-ghost use Rattle.gt_bytes.specs.Answers.{Gives, Within};
-ghost use Rattle.gt_bytes.specs.Reading.{all_of};
+ghost use Rattle.std.specs.Int.{w64};
+ghost use Rattle.gt_bytes.specs.Answers.{Gives, Within, MemoryAfter};
+ghost use Rattle.gt_bytes.specs.Reading.{all_of, pair_at, number_at};
 ghost use Rattle.gt_entry.specs.declared.version.Version.TheVariants.{First};
-ghost use Rattle.gt_entry.specs.Reading.{write_at, packing_at, change_by, change_at, body_at, top_at};
+ghost use Rattle.gt_entry.specs.Reading.{path_at, write_at, packing_at, change_by, change_at, body_at, top_at, front_at};
 
 use crate::Version;
 use crate::fields::{read_flag, read_path, read_version};
@@ -127,6 +128,7 @@ fn read_body(
     requires { at ≤ length bytes.now }
     ensures within { Within result (length bytes.now) }
     ensures value { Gives result (body_at version bytes.now at) }
+    ensures memory { MemoryAfter result (pair_at (number_at w64 bytes.now) (path_at bytes.now) at) }
 {
     let (position, after) = get_u64(bytes, at)?;
     let (path, begin) = read_path(alloc, bytes, after)?;
@@ -147,6 +149,7 @@ fn read_top(alloc: Global, bytes: &[u8], at: usize) -> Result<((Version, Entry),
     requires { at ≤ length bytes.now }
     ensures within { Within result (length bytes.now) }
     ensures value { Gives result (top_at bytes.now at) }
+    ensures memory { MemoryAfter result (front_at bytes.now at) }
 {
     let (version, begin) = read_version(bytes, at)?;
     let (entry, next) = read_body(alloc, version, bytes, begin)?;
@@ -155,7 +158,8 @@ fn read_top(alloc: Global, bytes: &[u8], at: usize) -> Result<((Version, Entry),
 
 /// All fields, with no byte behind them.
 pub(crate) fn read_all(alloc: Global, bytes: &[u8]) -> Result<(Version, Entry), FieldError>
-    ensures { Gives result (all_of (top_at bytes.now) bytes.now) }
+    ensures value { Gives result (all_of (top_at bytes.now) bytes.now) }
+    ensures memory { MemoryAfter result (front_at bytes.now 0) }
 {
     let (found, end) = read_top(alloc, bytes, 0)?;
     if end != bytes.len() {

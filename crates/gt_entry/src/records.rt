@@ -1,6 +1,6 @@
 ghost use Rattle.std.specs.Prelude.{◌≡◌, ◌≤◌, ◌++◌, length, OnOk};
 ghost use Rattle.std.specs.List.{All};
-ghost use Rattle.gt_bytes.specs.Answers.{Gives, Within};
+ghost use Rattle.gt_bytes.specs.Answers.{Gives, Within, MemoryAfter, Reads, EndsWithin};
 ghost use Rattle.gt_bytes.specs.Reading.{kept, name_at, counted_at};
 ghost use Rattle.gt_bytes.specs.Spelling.{counted};
 ghost use Rattle.gt_entry.specs.Fits.{IsCounted, IsAdded};
@@ -8,7 +8,7 @@ ghost use Rattle.gt_entry.specs.Reading.{above, added_name, record_at, added_at}
 ghost use Rattle.gt_entry.specs.Spelling.{item};
 
 use crate::names::put_id;
-use gt_bytes::{FieldError, get_name, get_u32, put_u32};
+use gt_bytes::{FieldError, Short, get_name, get_u32, put_u32};
 use gt_list::{ListOf, NoMemory};
 use gt_model::{Added, AddedRecords};
 use gt_name::Name;
@@ -25,15 +25,15 @@ fn is_above(before: &[Added], name: &Name) -> bool
     }
 }
 
-fn read_name(bytes: &[u8], before: &[Added], at: usize) -> Result<(Name, usize), FieldError>
+fn read_name(bytes: &[u8], before: &[Added], at: usize) -> Result<(Name, usize), Short>
     requires { at ≤ length bytes.now }
-    ensures within { Within result (length bytes.now) }
-    ensures value { Gives result (kept (above added_name before.now) at (name_at bytes.now at)) }
+    ensures within { EndsWithin result (length bytes.now) }
+    ensures value { Reads result (kept (above added_name before.now) at (name_at bytes.now at)) }
 {
     let (found, next) = get_name(bytes, at)?;
     let name = Name(found);
     if !is_above(before, &name) {
-        return Err(FieldError::BadField { at });
+        return Err(Short { at });
     }
     Ok((name, next))
 }
@@ -44,6 +44,7 @@ fn read_record(alloc: Global, bytes: &[u8], at: usize) -> Result<(Record, usize)
     requires { at ≤ length bytes.now }
     ensures within { Within result (length bytes.now) }
     ensures value { Gives result (record_at bytes.now at) }
+    ensures memory { MemoryAfter result (record_at bytes.now at) }
 {
     let (len, begin) = get_u32(bytes, at)?;
     if bytes.len() - begin < len as usize {
@@ -68,6 +69,7 @@ fn read_added(
     requires { at ≤ length bytes.now }
     ensures within { Within result (length bytes.now) }
     ensures value { Gives result (added_at bytes.now before.now at) }
+    ensures memory { MemoryAfter result (added_at bytes.now before.now at) }
 {
     let (name, after) = read_name(bytes, before, at)?;
     let (whole, next) = read_record(alloc, bytes, after)?;

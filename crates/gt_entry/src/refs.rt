@@ -1,6 +1,6 @@
 ghost use Rattle.std.specs.Prelude.{◌≡◌, ◌≤◌, ◌++◌, ◌∷◌, [], length, OnOk, IfSome};
 ghost use Rattle.std.specs.List.{All};
-ghost use Rattle.gt_bytes.specs.Answers.{Gives, Within};
+ghost use Rattle.gt_bytes.specs.Answers.{Gives, Within, MemoryAfter, Reads, EndsWithin};
 ghost use Rattle.gt_bytes.specs.Reading.{kept, counted_at};
 ghost use Rattle.gt_bytes.specs.Spelling.{counted};
 ghost use Rattle.gt_entry.specs.Agrees.{Agrees};
@@ -11,7 +11,7 @@ ghost use Rattle.gt_entry.specs.Spelling.{target, update};
 use crate::Version;
 use crate::fields::{read_flag, read_ref};
 use crate::names::put_id;
-use gt_bytes::{FieldError, get_name, get_u32, put_text, put_u8, put_u32};
+use gt_bytes::{FieldError, Short, get_name, get_u32, put_text, put_u8, put_u32};
 use gt_list::{ListOf, NoMemory};
 use gt_model::{RefUpdate, RefUpdates};
 use gt_name::{Name, RefName, law_references};
@@ -30,6 +30,7 @@ fn read_new_ref(
     requires agrees { Agrees set.now before.now }
     ensures within { Within result (length bytes.now) }
     ensures value { Gives result (kept (is_new before.now) at (ref_at bytes.now at)) }
+    ensures memory { MemoryAfter result (ref_at bytes.now at) }
 {
     let (name, next) = read_ref(alloc, bytes, at)?;
     if set.contains(&name) {
@@ -39,10 +40,10 @@ fn read_new_ref(
 }
 
 /// The new value, if there is one.
-fn read_target_by(bytes: &[u8], moves: bool, at: usize) -> Result<(Option<Name>, usize), FieldError>
+fn read_target_by(bytes: &[u8], moves: bool, at: usize) -> Result<(Option<Name>, usize), Short>
     requires { at ≤ length bytes.now }
-    ensures within { Within result (length bytes.now) }
-    ensures value { Gives result (target_by bytes.now moves at) }
+    ensures within { EndsWithin result (length bytes.now) }
+    ensures value { Reads result (target_by bytes.now moves at) }
 {
     if !moves {
         return Ok((None, at));
@@ -53,14 +54,10 @@ fn read_target_by(bytes: &[u8], moves: bool, at: usize) -> Result<(Option<Name>,
 
 /// What a reference moves to. None for a check.
 #[tactic(auto, unfolding(crate::specs::Reading::target_at))]
-fn read_target(
-    version: Version,
-    bytes: &[u8],
-    at: usize,
-) -> Result<(Option<Name>, usize), FieldError>
+fn read_target(version: Version, bytes: &[u8], at: usize) -> Result<(Option<Name>, usize), Short>
     requires { at ≤ length bytes.now }
-    ensures within { Within result (length bytes.now) }
-    ensures value { Gives result (target_at version bytes.now at) }
+    ensures within { EndsWithin result (length bytes.now) }
+    ensures value { Reads result (target_at version bytes.now at) }
 {
     match version {
         Version::First => {
@@ -87,6 +84,7 @@ fn read_update(
     requires agrees { Agrees set.now before.now }
     ensures within { Within result (length bytes.now) }
     ensures value { Gives result (update_at version bytes.now before.now at) }
+    ensures memory { MemoryAfter result (ref_at bytes.now at) }
 {
     let (name, after) = read_new_ref(alloc, bytes, before, set, at)?;
     let (old, begin) = get_name(bytes, after)?;

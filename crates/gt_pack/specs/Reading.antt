@@ -3,7 +3,7 @@ use Rattle.std.specs.Prelude.{ℕ, ◌+◌, ◌-◌, Bool, List, [], ◌∷◌, 
 use Rattle.std.specs.Option.{option_map, is_none}
 use Rattle.std.specs.List.{starts_with}
 use Rattle.std.specs.Int.{w32, w64}
-use Rattle.gt_bytes.specs.Reading.{◌>>=◌, number_at, name_at, counted_at, kept, pair_at, seen_at}
+use Rattle.gt_bytes.specs.Reading.{◌>>=◌, number_at, name_at, counted_at, first_at, kept, pair_at, seen_at}
 use Rattle.gt_object.specs.Whole.{why_not}
 use Rattle.gt_pack.specs.declared.placed.Placed.{Placed}
 use Rattle.gt_pack.specs.Spelling.{above}
@@ -50,6 +50,10 @@ indexed_at bytes e at = pair_at (same_at bytes e.name) (exactly_at bytes (e.plac
 abbrev pub index_at : List ℕ → List Placed → ℕ → Result (Unit {0} × ℕ) ℕ
 index_at bytes [] at = Ok (tt, at)
 index_at bytes (e ∷ es) at = indexed_at bytes e at >>= λ x. index_at bytes es x.1
+
+-- the first item of a pack, which takes memory
+abbrev pub first_item : List ℕ → ℕ → Result (Placed × ℕ) ℕ
+first_item bytes at = magic_at bytes at >>= λ m. first_at (placed_at bytes) bytes m.1
 
 -- the items
 unfoldable pub items_at : List ℕ → ℕ → Result (List Placed × ℕ) ℕ

@@ -1,8 +1,8 @@
 ghost use Rattle.std.specs.Prelude.{◌≡◌, List, Ok, IfOk};
 ghost use Rattle.gt_pack.specs.Spelling.{Packed, IsPack, pack, places};
-ghost use Rattle.gt_pack.specs.Reading.{pack_of};
+ghost use Rattle.gt_pack.specs.Reading.{pack_of, first_item};
 ghost use Rattle.gt_pack.specs.Index.{find_in, item_of};
-ghost use Rattle.gt_pack.specs.Answers.{GivesPack, IsIndexOf};
+ghost use Rattle.gt_pack.specs.Answers.{GivesPack, MemoryAfter, IsIndexOf};
 
 use crate::placed::find_in;
 use crate::reading::read_pack;
@@ -33,13 +33,16 @@ impl Model for PackIndex {
 
 impl PackIndex {
     /// The index of the pack that is all of the bytes (docs/FORMATS.md, "Pack"). `BadPack` exactly where they are no
-    /// pack, with the place where the first field begins that can't be read; else the only error is want of memory.
+    /// pack, with the place where the first field begins that can't be read; else the only error is want of memory, never before
+    /// the first record was read.
     pub fn of_bytes(alloc: Global, bytes: &[u8]) -> Result<PackIndex, PackError>
         // What is read is a pack, and these are the places of its records.
         ensures found { IfOk result (IsIndexOf bytes.now) }
         // A pack is read, unless memory runs out.
         ensures only { (records : List Packed) → IsPack records → bytes.now ≡ pack records → GivesPack result (Ok (places 8 records)) }
         ensures exact { GivesPack result (pack_of bytes.now) }
+        // No memory is wanted before the first record is read.
+        ensures memory { MemoryAfter result (first_item bytes.now 0) }
     {
         match read_pack(alloc, bytes) {
             Ok(items) => Ok(PackIndex { items }),

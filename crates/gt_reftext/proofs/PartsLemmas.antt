@@ -1,11 +1,12 @@
 -- The parts of a text at its first line feed.
-use Rattle.std.proofs.Common.{◌≡◌, ℕ, suc, ◌+◌, ◌<◌, ◌≤◌, Bool, true, false, not, cond, eqb, ltb, List, [], ◌∷◌, length, take, drop, Some, None, Result, Ok, Err, refl, sym, ap, ◌∙◌, arith, position}
+use Rattle.std.proofs.Common.{◌≡◌, ◌⊎◌, inl, inr, ℕ, suc, ◌+◌, ◌<◌, ◌≤◌, Bool, true, false, not, cond, eqb, ltb, List, [], ◌∷◌, length, take, drop, Option, Some, None, IsSome, Result, Ok, Err, is_none, codes, nat_eq, refl, sym, ap, subst, ◌∙◌, arith, position}
 use Rattle.std.proofs.lemmas.Bool.Decides.{nat_tests}
-use Rattle.std.specs.List.{prefix_len}
-use Rattle.gt_reftext.specs.Lines.{parts_of}
+use Rattle.std.specs.List.{prefix_len, starts_with}
+use Rattle.gt_reftext.specs.declared.packed_ref.PackedRef.{PackedRef}
+use Rattle.gt_reftext.specs.Lines.{parts_of, name_of, is_header, ref_line, first_from, IsReference}
 use Rattle.gt_reftext.specs.declared.error.RefTextError.{RefTextError}
 use Rattle.gt_reftext.specs.declared.error.RefTextError.TheVariants.{BadLine, Memory}
-use Rattle.gt_reftext.specs.Packed.{Sofar, after_line, read_from}
+use Rattle.gt_reftext.specs.Packed.{Sofar, Entry, with_peeled, with_ref, has_name, put, after_line, read_from}
 use Rattle.gt_reftext.specs.Answers.{Moves, Fails}
 
 abbrev before : List ℕ → ℕ
@@ -92,3 +93,84 @@ unfolding read_from
 line_ends number sofar text total parts so_far =
     let one : read_from sofar number text ≡ cond (eqb (length text) 0) (Ok sofar) (Err number) = rw parts refl in
     sym so_far ∙ one
+
+-- ---- the first reference
+
+-- Before the first reference nothing was noted, and the first of what is left is the first of all; after it all had one.
+pub record IsBegun (number : ℕ) (sofar : Sofar) (text : List ℕ) (first : Option PackedRef) : Type 0 where
+  pub none : sofar.1 ≡ None → (sofar.0 ≡ []) × (first_from number text ≡ first)
+  pub some : IsSome sofar.1 → IsSome first
+
+-- a line with a reference is the first, or comes after it
+pub line_first : (number : ℕ) (sofar : Sofar) (text line after : List ℕ) (first : Option PackedRef) → parts_of text ≡ (line, (parts_of after).0 ∷ (parts_of after).1)
+    → IsBegun number sofar text first → IsReference number line → IsSome first
+unfolding first_from
+line_first number (done, None) text line after first parts so_far is =
+    let one : first_from number text ≡ ref_line line = rw (parts, is.below) refl in
+    let P : Option PackedRef → Type 0 = λ o. IsSome o in
+    subst P (sym one ∙ (so_far.none refl).1) is.found
+line_first number (done, Some r) text line after first parts so_far is = so_far.some refl
+
+none_some : {A : Type 0} (o : Option A) → o ≡ None → IsSome o → ⊥
+none_some None e h = absurd cc
+none_some (Some x) e h = absurd cc
+
+some_is : {A : Type 0} (x y : A) → Some x ≡ Some y → x ≡ y
+some_is x y e = cc
+
+-- a peeled name is for a reference
+peeled_some : (done : List Entry) (last : Option PackedRef) (name : Option (List ℕ)) (next : Sofar) → with_peeled done last name ≡ Some next → IsSome last × IsSome next.1
+peeled_some done None name next e = absurd cc
+peeled_some done (Some r) None next e = absurd cc
+peeled_some done (Some r) (Some name) next e =
+    elim (is_none r.peeled) as (λ v. cond v (Some (done, Some (record { name = r.name; value = r.value; peeled = Some name }))) None ≡ Some next → IsSome {T = PackedRef} (Some r) × IsSome next.1) [
+      | true ↦ λ h. let P : Sofar → Type 0 = λ s. IsSome s.1 in (refl, subst P (some_is _ next h) refl)
+      | false ↦ λ h. absurd cc
+    ] e
+
+-- a reference more is noted
+ref_some : (sofar : Sofar) (found : Option PackedRef) (next : Sofar) → with_ref sofar found ≡ Some next → IsSome found × IsSome next.1
+ref_some sofar None next e = absurd cc
+ref_some sofar (Some r) next e =
+    elim (has_name sofar r.name) as (λ v. cond v None (Some (put sofar.0 sofar.1, Some r)) ≡ Some next → IsSome {T = PackedRef} (Some r) × IsSome next.1) [
+      | true ↦ λ h. absurd cc
+      | false ↦ λ h. let P : Sofar → Type 0 = λ s. IsSome s.1 in (refl, subst P (some_is _ next h) refl)
+    ] e
+
+either : (b : Bool) → (b ≡ true) ⊎ (b ≡ false)
+either true = inl refl
+either false = inr refl
+
+-- a header says nothing
+header_goes : (number : ℕ) (sofar next : Sofar) (text line after : List ℕ) (first : Option PackedRef) → parts_of text ≡ (line, (parts_of after).0 ∷ (parts_of after).1)
+    → is_header number line ≡ true → sofar ≡ next → IsBegun number sofar text first → IsBegun (number + 1) next after first
+unfolding first_from
+header_goes number sofar next text line after first parts header same so_far =
+    let one : first_from number text ≡ first_from (number + 1) after = rw (parts, header) refl in
+    let P : Sofar → Type 0 = λ s. IsBegun (number + 1) s after first in
+    subst P same (record { none = λ e. ((so_far.none e).0, sym one ∙ (so_far.none e).1); some = so_far.some })
+
+-- once a reference was noted, the first is one
+noted : (sofar : Sofar) (number : ℕ) (text : List ℕ) (first : Option PackedRef) → IsSome sofar.1 → IsSome first → IsBegun number sofar text first
+noted sofar number text first some is = record { none = λ e. absurd (none_some sofar.1 e some); some = λ _. is }
+
+-- a line was read
+pub begun_goes : (number : ℕ) (sofar next : Sofar) (text line after : List ℕ) (first : Option PackedRef) → parts_of text ≡ (line, (parts_of after).0 ∷ (parts_of after).1)
+    → after_line number sofar line ≡ Some next → IsBegun number sofar text first → IsBegun (number + 1) next after first
+unfolding after_line
+begun_goes number sofar next text line after first parts moved so_far =
+    let a : Bool = is_header number line in
+    let b : Bool = starts_with nat_eq line (codes "^") in
+    elim (either a) [
+      | inl header ↦ header_goes number sofar next text line after first parts header (some_is sofar next (sym (rw header refl) ∙ moved)) so_far
+      | inr below ↦ elim (either b) [
+        | inl peeled ↦
+            let is : with_peeled sofar.0 sofar.1 (name_of (drop 1 line)) ≡ Some next = sym (rw (below, peeled) refl) ∙ moved in
+            let some = peeled_some sofar.0 sofar.1 (name_of (drop 1 line)) next is in
+            noted next (number + 1) after first some.1 (so_far.some some.0)
+        | inr other ↦
+            let is : with_ref sofar (ref_line line) ≡ Some next = sym (rw (below, other) refl) ∙ moved in
+            let some = ref_some sofar (ref_line line) next is in
+            noted next (number + 1) after first some.1 (line_first number sofar text line after first parts so_far (record { below = below; found = some.0 }))
+      ]
+    ]

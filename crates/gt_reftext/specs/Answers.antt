@@ -1,5 +1,5 @@
 -- What the code's answers say of the definitions.
-use Rattle.std.specs.Prelude.{◌≡◌, ℕ, Result, Ok, Err, Option, Some, None}
+use Rattle.std.specs.Prelude.{◌≡◌, ℕ, [], Result, Ok, Err, Option, Some, None}
 use Rattle.gt_reftext.specs.declared.error.RefTextError.{RefTextError}
 use Rattle.gt_reftext.specs.declared.error.RefTextError.TheVariants.{BadLine, Memory}
 use Rattle.gt_reftext.specs.declared.sofar.Sofar.{Sofar}
@@ -33,3 +33,17 @@ GivesSofar (Err e) read = Fails e read
 abbrev pub Is : Option Sofar → Option packed.Sofar → Type 0
 Is None after = after ≡ None
 Is (Some s) after = after ≡ Some (seen s)
+
+-- Before the first reference.
+abbrev pub IsNothing : packed.Sofar → Type 0
+IsNothing s = (s.0 ≡ []) × (s.1 ≡ None)
+
+-- This holds where memory ran out.
+abbrev pub OnMemory : {A : Type 0} → Result A RefTextError → Type 0 → Type 0
+OnMemory (Ok x) P = Unit {0}
+OnMemory (Err e) P = e ≡ Memory → P
+
+-- What has a reference has one from its first line on, but for a header.
+abbrev pub IsBegunBy : Result Sofar RefTextError → Type 0 → Type 0
+IsBegunBy (Ok s) P = ¬ IsNothing (seen s) → P
+IsBegunBy (Err e) P = Unit {0}

@@ -1,5 +1,5 @@
 -- The lines of a packed file, and what each line says.
-use Rattle.std.specs.Prelude.{◌≡◌, ℕ, ◌<◌, Bool, option_and_then, List, [], ◌∷◌, length, take, drop, nat_lt, ◌&&◌, ◌==◌, if◌then◌else◌, Option, Some, None, is_none, slice_index, codes, nat_eq, Result, Ok, Err}
+use Rattle.std.specs.Prelude.{◌≡◌, ℕ, ◌+◌, ◌<◌, Bool, false, IsSome, option_and_then, List, [], ◌∷◌, length, take, drop, nat_lt, ◌&&◌, ◌==◌, if◌then◌else◌, Option, Some, None, is_none, slice_index, codes, nat_eq, Result, Ok, Err}
 use Rattle.std.specs.Borrow.{Bor}
 use Rattle.std.specs.List.{list_all, starts_with}
 use Rattle.hex.specs.Hex.{decode_of}
@@ -44,3 +44,21 @@ Cuts text (Some x) = (parts_of text ≡ (x.0.now, (parts_of x.1.now).0 ∷ (part
 -- a first line that begins with `#`
 abbrev pub is_header : ℕ → List ℕ → Bool
 is_header number line = number == 1 && starts_with nat_eq line (codes "#")
+
+-- A line with a reference, which takes memory.
+pub record IsReference (number : ℕ) (line : List ℕ) : Type 0 where
+  pub below : is_header number line ≡ false
+  pub found : IsSome (ref_line line)
+
+-- the reference of the first of these lines that is no header, if it is one's; the last part is no line
+abbrev pub first_of : ℕ → List ℕ → List (List ℕ) → Option PackedRef
+first_of number part [] = None
+first_of number part (next ∷ more) = if is_header number part then first_of (number + 1) next more else ref_line part
+
+-- from a line of this number on
+unfoldable pub first_from : ℕ → List ℕ → Option PackedRef
+first_from number text = first_of number (parts_of text).0 (parts_of text).1
+
+-- The first line that is no header has a reference.
+abbrev pub BeginsWell : List ℕ → Type 0
+BeginsWell text = IsSome (first_from 1 text)

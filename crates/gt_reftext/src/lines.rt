@@ -1,4 +1,4 @@
-ghost use Rattle.std.specs.Prelude.{◌≡◌, ◌==◌, IfOk, position};
+ghost use Rattle.std.specs.Prelude.{◌≡◌, ◌==◌, IfOk, OnErr, IsSome, position};
 ghost use Rattle.std.specs.List.{list_all};
 ghost use Rattle.gt_reftext.specs.Lines.{ref_line, good_reference, name_of, is_zero, Cuts};
 
@@ -32,7 +32,9 @@ fn is_zero(value: &Name) -> bool
 
 /// A reference without a peeled name; none where the name is bad or the value is zero.
 fn reference(alloc: Global, value: Name, text: &[u8]) -> Result<Option<PackedRef>, NoMemory>
-    ensures { IfOk result (λ found. found ≡ good_reference value text.now) }
+    ensures found { IfOk result (λ found. found ≡ good_reference value text.now) }
+    // Memory is wanted only for a good one.
+    ensures memory { OnErr result (IsSome (good_reference value text.now)) }
 {
     if is_zero(&value) {
         return Ok(None);
@@ -51,7 +53,8 @@ fn reference(alloc: Global, value: Name, text: &[u8]) -> Result<Option<PackedRef
 /// The reference of a line: 40 hex digits, a space, and its name.
 #[tactic(auto, unfolding(crate::specs::Lines::ref_line))]
 pub(crate) fn ref_line(alloc: Global, line: &[u8]) -> Result<Option<PackedRef>, NoMemory>
-    ensures { IfOk result (λ found. found ≡ ref_line line.now) }
+    ensures found { IfOk result (λ found. found ≡ ref_line line.now) }
+    ensures memory { OnErr result (IsSome (ref_line line.now)) }
 {
     if line.len() < 41 {
         return Ok(None);

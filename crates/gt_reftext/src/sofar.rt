@@ -1,10 +1,10 @@
-ghost use Rattle.std.specs.Prelude.{◌≡◌, [], IfOk, OnOk, map};
+ghost use Rattle.std.specs.Prelude.{◌≡◌, [], IfOk, OnOk, OnErr, IsSome, map};
 ghost use Rattle.std.specs.BTreeMap.{IsOrdered};
 ghost use Rattle.std.specs.Ordering.{nat_cmp};
 ghost use Rattle.std.specs.Cmp.Lexicographic.{slice_cmp};
-ghost use Rattle.gt_reftext.specs.Lines.{name_of, ref_line};
+ghost use Rattle.gt_reftext.specs.Lines.{name_of, ref_line, IsReference};
 ghost use Rattle.gt_reftext.specs.Packed.{put, has_name, with_ref, with_peeled, after_line, to_ref, Ascends};
-ghost use Rattle.gt_reftext.specs.Answers.{seen, Moves, Is};
+ghost use Rattle.gt_reftext.specs.Answers.{seen, Moves, OnMemory, Is, IsNothing};
 
 use crate::lines::{name_of, ref_line};
 use crate::{PackedList, PackedRef, RefTextError};
@@ -45,7 +45,8 @@ fn put(
     mut done: BTreeMap<RefName, (Name, Option<Name>)>,
     last: Option<PackedRef>,
 ) -> Result<BTreeMap<RefName, (Name, Option<Name>)>, NoMemory>
-    ensures { IfOk result (λ all. all.entries ≡ put done.entries last) }
+    ensures all { IfOk result (λ all. all.entries ≡ put done.entries last) }
+    ensures memory { OnErr result (IsSome last) }
 {
     match last {
         None => Ok(done),
@@ -58,7 +59,8 @@ fn put(
 
 /// One reference more; none where the line has none or its name stands there already.
 fn with_line(alloc: Global, sofar: Sofar, line: &[u8]) -> Result<Option<Sofar>, NoMemory>
-    ensures { IfOk result (λ next. Is next (with_ref (seen sofar) (ref_line line.now))) }
+    ensures next { IfOk result (λ next. Is next (with_ref (seen sofar) (ref_line line.now))) }
+    ensures memory { OnErr result (IsSome (ref_line line.now)) }
 {
     match ref_line(alloc, line)? {
         None => Ok(None),
@@ -104,7 +106,9 @@ pub(crate) fn after_line(
     number: usize,
     line: &[u8],
 ) -> Result<Sofar, RefTextError>
-    ensures { Moves number result (after_line number (seen sofar) line.now) }
+    ensures moves { Moves number result (after_line number (seen sofar) line.now) }
+    // Memory is wanted only for a line with a reference.
+    ensures memory { OnMemory result (IsReference number line.now) }
 {
     if number == 1 && line.starts_with(b"#") {
         return Ok(sofar);
@@ -141,8 +145,13 @@ fn listed(
 /// All references, ascending by name.
 pub(crate) fn whole(alloc: Global, sofar: Sofar) -> Result<PackedList, NoMemory>
     ensures list { IfOk result (λ list. list ≡ map to_ref (put sofar.done.entries sofar.last)) }
+    // The empty list takes no memory.
+    ensures memory { OnErr result (¬ IsNothing (seen sofar)) }
     ensures ascending { IfOk result Ascends }
 {
+    if sofar.last.is_none() && sofar.done.is_empty() {
+        return Ok(ListOf::new(alloc));
+    }
     let all = put(sofar.done, sofar.last)?;
     let list = listed(alloc, all)?;
     Ok(list)

@@ -1,6 +1,7 @@
 use Rattle.std.proofs.Common.{◌≡◌, ◌≤◌, ◌-◌, length}
 use Rattle.gt_bytes.specs.Reading.{many_at, counted_at}
+use Rattle.gt_bytes.proofs.Loops.{IsBegun}
 use Rattle.gt_bytes.proofs.list.read_list.Given as goal
 
 abbrev pub invariant-items : goal.invariant-items
-invariant-items g l = record { within : l.at ≤ length l.bytes; so_far : many_at (g.I.Item.item_at l.bytes) (l.count - l.counter) l.items l.at ≡ counted_at (g.I.Item.item_at l.bytes) l.bytes l.from }
+invariant-items g l = record { within : l.at ≤ length l.bytes; so_far : many_at (g.I.Item.item_at l.bytes) (l.count - l.counter) l.items l.at ≡ counted_at (g.I.Item.item_at l.bytes) l.bytes l.from; first : IsBegun (g.I.Item.item_at l.bytes) l.bytes l.from l.begin l.counter l.items l.at }
