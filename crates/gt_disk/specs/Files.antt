@@ -1,5 +1,5 @@
 -- Files, what a stop may leave of them, and what the calls of a disk do to them.
-use Rattle.std.specs.Prelude.{◌≡◌, ◌≢◌, ◌⊎◌, ℕ, ◌+◌, ◌-◌, ◌^◌, ◌<◌, ◌≤◌, min, List, [], ◌++◌, length, take, drop, Option, Some, None, Result, Ok, Err, OnErr, IsErrOf, IsSome, Vec}
+use Rattle.std.specs.Prelude.{◌≡◌, ◌≢◌, ◌⊎◌, ℕ, ◌+◌, ◌-◌, ◌^◌, ◌<◌, ◌≤◌, min, List, [], ◌++◌, length, take, drop, Option, Some, None, Result, Ok, Err, OnOk, OnErr, IsErrOf, IsSome, Vec}
 use Rattle.std.specs.declared.alloc.Global.{Global}
 use Rattle.std.specs.Option.{unwrap_or, option_map}
 use Rattle.std.specs.Ordering.{nat_cmp, ordering_then}
@@ -118,13 +118,18 @@ pub record ReadGives (content : Content) (at : ℕ) (old new : List ℕ) (n : �
 abbrev pub Rose : ℕ → ℕ → Type 0
 Rose before after = min (before + 1) (2 ^ 64 - 1) ≤ after
 
+-- A call fails only where the count of faults rose, and one that is Ok leaves it.
 pub record HasCause {T E : Type 0} (before after : ℕ) (result : Result T E) : Type 0 where
   pub later : before ≤ after
+  pub ok : OnOk result (after ≡ before)
   pub failed : OnErr result (Rose before after)
 
+-- The same, and a call that gives up for want of memory leaves the count too: no fault hides as want of memory.
 pub record HasDiskCause {T : Type 0} (before after : ℕ) (result : Result T DiskError) : Type 0 where
   pub later : before ≤ after
+  pub ok : OnOk result (after ≡ before)
   pub failed : IsErrOf result Failed → Rose before after
+  pub memory : IsErrOf result Memory → after ≡ before
 
 -- by kind, then by number
 abbrev pub file_cmp : FileId → FileId → Ordering

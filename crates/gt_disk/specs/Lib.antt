@@ -1,6 +1,7 @@
 pub mod Calls
 pub mod Contents
 pub mod Files
+pub mod Kinds
 pub mod Memory
 pub mod Moments
 pub mod Plan

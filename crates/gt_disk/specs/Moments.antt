@@ -20,6 +20,10 @@ pub record Runs (file : FileId) (P : FileState → Type 0) (old new : View) : Ty
 abbrev pub AnyState : FileState → Type 0
 AnyState s = Unit {0}
 
+-- the state before a sync, or what a read showed, which lasts
+abbrev pub Lasting : FileState → Content → FileState → Type 0
+Lasting before shown s = (s ≡ before) ⊎ (s ≡ still shown)
+
 -- what stood there, that with a part of the piece behind it, or with the whole
 abbrev pub Growing : Content → List ℕ → FileState → Type 0
 Growing x piece s = (s ≡ still x) ⊎ (s ≡ grown x (length piece)) ⊎ (s ≡ still (appended x piece))

@@ -1,5 +1,5 @@
 // What the store asks of a disk.
-ghost use Rattle.std.specs.Prelude.{◌≡◌, ◌≤◌, ◌+◌, ℕ, Bool, List, length, IsTrue, IfOk, OnOk, MatchResult, MatchOption, IfSome};
+ghost use Rattle.std.specs.Prelude.{◌≡◌, ◌≤◌, ◌<◌, ◌+◌, ℕ, Bool, List, length, IsTrue, IfOk, OnOk, MatchResult, MatchOption, IfSome};
 ghost use Rattle.gt_disk.specs.Files.{View, Becomes, Appends, Removes, Synced, Touched, Unchanged, Quiet, HasCause, HasDiskCause, length_of, ReadGives, IsImage, loose, grow, now, IsPast, IsNext};
 
 use crate::{DiskError, Failed, FileId};
@@ -12,7 +12,7 @@ use crate::{DiskError, Failed, FileId};
 /// failed counts as one that didn't, but for a sync, which then leaves the state.
 ///
 /// Every method but `tick` and `faults` is a call that may fail: `Failed` is answered only where the count of faults rose in
-/// this call, or stands at 2^64 - 1 after it.
+/// this call, or stands at 2^64 - 1 after it. A call that is Ok or gives up for want of memory leaves the count.
 pub trait Disk {
     /// Whether the disk tells what reads show and what stops leave. Of files of an operating system nothing is told.
     ghost tells: { Bool };
@@ -26,7 +26,8 @@ pub trait Disk {
     /// How many calls were made: a call counts for one at most.
     ghost call_count: { Self → ℕ } = { λ _. 0 };
 
-    /// The disk's clock. It never falls, and each call that changes the disk moves it.
+    /// The disk's clock. It never falls, and each call that changes the disk moves it. That binds a disk that tells nothing too:
+    /// a clock that stood still there would let a caller take the one disk for the other.
     fn tick(&self) -> u64
         ensures { result ≡ (view self.now).clock };
 
@@ -57,6 +58,7 @@ pub trait Disk {
         ensures written { IsTrue tells → OnOk result ((view self.new).reads file ≡ Some bytes.now) }
         ensures moment { IsTrue tells → Touched result (Becomes file loose (view self.old) (view self.new)) (Unchanged (view self.old) (view self.new)) }
         ensures later { (view self.old).clock ≤ (view self.new).clock }
+        ensures moves { OnOk result ((view self.old).clock < (view self.new).clock) }
         ensures cause { HasDiskCause (fault_count self.old) (fault_count self.new) result }
         ensures counted { call_count self.new ≤ call_count self.old + 1 };
 
@@ -66,6 +68,7 @@ pub trait Disk {
         ensures appended { IsTrue tells → Appends bytes.now result ((view self.old).reads file) ((view self.new).reads file) }
         ensures moment { IsTrue tells → Touched result (Becomes file (grow (length bytes.now) (now (view self.old) file)) (view self.old) (view self.new)) (Unchanged (view self.old) (view self.new)) }
         ensures later { (view self.old).clock ≤ (view self.new).clock }
+        ensures moves { OnOk result ((view self.old).clock < (view self.new).clock) }
         ensures cause { HasDiskCause (fault_count self.old) (fault_count self.new) result }
         ensures counted { call_count self.new ≤ call_count self.old + 1 };
 

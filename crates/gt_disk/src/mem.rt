@@ -73,8 +73,9 @@ impl MemDisk {
 }
 
 impl Disk for MemDisk {
-    ghost use Rattle.std.specs.Prelude.{true, ℕ};
-    ghost use Rattle.gt_disk.specs.Memory.{mem_view, mem_faults, mem_made};
+    ghost use Rattle.std.specs.Prelude.{true, ℕ, length, Some, take, MatchResult, MatchOption, IfSome};
+    ghost use Rattle.gt_disk.specs.Files.{Quiet, ReadGives, Becomes, Unchanged, Synced, Appends, Removes, Touched, HasCause, HasDiskCause, IsNext, IsPast, length_of, loose, grow, now, appended};
+    ghost use Rattle.gt_disk.specs.Memory.{mem_view, mem_faults, mem_made, next_fault, IsCounted, FailsAsPlanned, KeepsAsPlanned, LeavesAsPlanned, kept_of};
     ghost use Rattle.gt_disk.specs.Shows.{shows_calls};
 
     ghost tells = { true };
@@ -95,75 +96,114 @@ impl Disk for MemDisk {
         self.plan.failed
     }
 
-    fn len(&mut self, file: FileId) -> Result<Option<u64>, Failed> {
-        if let Some(_) = self.plan.next() {
-            return Err(Failed);
-        }
+    fn len(&mut self, file: FileId) -> Result<Option<u64>, Failed>
+        ensures length { IfOk result (λ n. n ≡ length_of ((mem_view self.old).reads file)) }
+        ensures moment { Quiet (mem_view self.old) (mem_view self.new) }
+        ensures cause { HasCause (mem_faults self.old) (mem_faults self.new) result }
+        ensures counted { IsCounted self.old self.new }
+        ensures planned { FailsAsPlanned (next_fault self.old) result }
+    {
+        self.plan.pass()?;
         match self.records.files.get(&file) {
             Some(bytes) => Ok(Some(bytes.len() as u64)),
             None => Ok(None),
         }
     }
 
-    fn read_at(&mut self, file: FileId, at: u64, into: &mut [u8]) -> Result<usize, Failed> {
-        if let Some(_) = self.plan.next() {
-            return Err(Failed);
-        }
+    fn read_at(&mut self, file: FileId, at: u64, into: &mut [u8]) -> Result<usize, Failed>
+        ensures bound { IfOk result (λ n. n ≤ length into.old) }
+        ensures bytes { IfOk result (λ n. ReadGives ((mem_view self.old).reads file) at into.old into.new n) }
+        ensures moment { Quiet (mem_view self.old) (mem_view self.new) }
+        ensures cause { HasCause (mem_faults self.old) (mem_faults self.new) result }
+        ensures counted { IsCounted self.old self.new }
+        ensures planned { FailsAsPlanned (next_fault self.old) result }
+    {
+        self.plan.pass()?;
         match self.records.files.get(&file) {
             Some(bytes) => Ok(copy_from(bytes, at, into)),
             None => Ok(0),
         }
     }
 
-    fn write(&mut self, file: FileId, bytes: &[u8]) -> Result<(), DiskError> {
+    fn write(&mut self, file: FileId, bytes: &[u8]) -> Result<(), DiskError>
+        ensures written { OnOk result ((mem_view self.new).reads file ≡ Some bytes.now) }
+        ensures moment { Touched result (Becomes file loose (mem_view self.old) (mem_view self.new)) (Unchanged (mem_view self.old) (mem_view self.new)) }
+        ensures cause { HasDiskCause (mem_faults self.old) (mem_faults self.new) result }
+        ensures counted { IsCounted self.old self.new }
+        ensures planned { KeepsAsPlanned (next_fault self.old) result (λ kept. (mem_view self.new).reads file ≡ Some (kept_of bytes.now kept)) }
+    {
         match self.plan.next() {
             None => Ok(self.records.write(file, bytes)?),
             Some(kept) => {
                 self.records.write(file, &bytes[..front(bytes, kept)])?;
+                self.plan.count_failure();
                 Err(DiskError::Failed)
             }
         }
     }
 
-    fn append(&mut self, file: FileId, bytes: &[u8]) -> Result<(), DiskError> {
+    fn append(&mut self, file: FileId, bytes: &[u8]) -> Result<(), DiskError>
+        ensures appended { Appends bytes.now result ((mem_view self.old).reads file) ((mem_view self.new).reads file) }
+        ensures moment { Touched result (Becomes file (grow (length bytes.now) (now (mem_view self.old) file)) (mem_view self.old) (mem_view self.new)) (Unchanged (mem_view self.old) (mem_view self.new)) }
+        ensures cause { HasDiskCause (mem_faults self.old) (mem_faults self.new) result }
+        ensures counted { IsCounted self.old self.new }
+        ensures planned { KeepsAsPlanned (next_fault self.old) result (λ kept. (mem_view self.new).reads file ≡ appended ((mem_view self.old).reads file) (kept_of bytes.now kept)) }
+    {
         match self.plan.next() {
             None => Ok(self.records.append(file, bytes, bytes.len())?),
             Some(kept) => {
                 self.records.append(file, bytes, front(bytes, kept))?;
+                self.plan.count_failure();
                 Err(DiskError::Failed)
             }
         }
     }
 
-    fn sync(&mut self, file: FileId) -> Result<(), Failed> {
-        if let Some(_) = self.plan.next() {
-            return Err(Failed);
-        }
+    fn sync(&mut self, file: FileId) -> Result<(), Failed>
+        ensures moment { MatchResult result (λ _. Synced file (mem_view self.old) (mem_view self.new)) (λ _. Unchanged (mem_view self.old) (mem_view self.new)) }
+        ensures cause { HasCause (mem_faults self.old) (mem_faults self.new) result }
+        ensures counted { IsCounted self.old self.new }
+        ensures planned { FailsAsPlanned (next_fault self.old) result }
+    {
+        self.plan.pass()?;
         self.records.sync(file);
         Ok(())
     }
 
-    fn remove(&mut self, file: FileId) -> Result<(), Failed> {
+    fn remove(&mut self, file: FileId) -> Result<(), Failed>
+        ensures removed { Removes result ((mem_view self.old).reads file) ((mem_view self.new).reads file) }
+        ensures moment { MatchOption ((mem_view self.old).reads file) (Unchanged (mem_view self.old) (mem_view self.new)) (λ _. Becomes file loose (mem_view self.old) (mem_view self.new)) }
+        ensures cause { HasCause (mem_faults self.old) (mem_faults self.new) result }
+        ensures counted { IsCounted self.old self.new }
+        ensures planned { FailsAsPlanned (next_fault self.old) result }
+        ensures kept { IfSome (next_fault self.old) (LeavesAsPlanned ((mem_view self.old).reads file) ((mem_view self.new).reads file)) }
+    {
         match self.plan.next() {
             None => {
                 self.records.remove(file);
                 Ok(())
             }
-            Some(0) => {
-                self.records.leave(file);
-                Err(Failed)
-            }
-            Some(_) => {
-                self.records.remove(file);
+            Some(kept) => {
+                self.plan.count_failure();
+                if kept == 0 {
+                    self.records.leave(file);
+                } else {
+                    self.records.remove(file);
+                }
                 Err(Failed)
             }
         }
     }
 
-    fn list(&mut self, after: Option<FileId>) -> Result<Option<FileId>, Failed> {
-        if let Some(_) = self.plan.next() {
-            return Err(Failed);
-        }
+    fn list(&mut self, after: Option<FileId>) -> Result<Option<FileId>, Failed>
+        ensures order { IfOk result (λ next. IfSome next (IsPast after)) }
+        ensures next { IfOk result (λ next. IsNext (mem_view self.old).reads after next) }
+        ensures moment { Quiet (mem_view self.old) (mem_view self.new) }
+        ensures cause { HasCause (mem_faults self.old) (mem_faults self.new) result }
+        ensures counted { IsCounted self.old self.new }
+        ensures planned { FailsAsPlanned (next_fault self.old) result }
+    {
+        self.plan.pass()?;
         Ok(next_file(&self.records.files, after))
     }
 }

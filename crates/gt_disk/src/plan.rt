@@ -1,11 +1,11 @@
 // Which calls of a disk in memory are to fail.
-ghost use Rattle.std.specs.Prelude.{◌≡◌, ◌≤◌, ◌+◌, ◌^◌, ◌-◌, min, ℕ, length, OnOk, OnErr, IfSome, IfNone, is_some, if◌then◌else◌, None};
+ghost use Rattle.std.specs.Prelude.{◌≡◌, ◌≤◌, ◌+◌, ◌^◌, ◌-◌, min, ℕ, length, OnOk, OnErr, IsOk, IsErr, MatchOption, is_some, if◌then◌else◌, None};
 ghost use Rattle.std.specs.Ordering.{nat_cmp};
 ghost use Rattle.std.specs.BTreeMap as tree;
 ghost use Rattle.std.specs.BTreeMap.{btree_map_len};
 ghost use Rattle.gt_disk.specs.Plan.{listed};
 
-use crate::Fault;
+use crate::{Failed, Fault};
 use std::alloc::{AllocError, Global};
 use std::collections::BTreeMap;
 
@@ -34,21 +34,45 @@ impl Plan {
         }
     }
 
-    /// Counts a call, and finds out whether it is to fail. A failure is counted too.
+    /// Counts a call, and finds out whether it is to fail.
     pub fn next(&mut self) -> Option<u64>
         ensures fails { result ≡ tree.get nat_cmp self.old.faults self.old.made }
         ensures made { self.new.made ≡ min (self.old.made + 1) (2 ^ 64 - 1) }
-        ensures failed { IfSome result (λ kept. self.new.failed ≡ min (self.old.failed + 1) (2 ^ 64 - 1)) }
-        ensures passed { IfNone result (self.new.failed ≡ self.old.failed) }
-        ensures later { self.old.failed ≤ self.new.failed }
+        ensures failed { self.new.failed ≡ self.old.failed }
         ensures used { btree_map_len self.new.faults + (if is_some result then 1 else 0) ≡ btree_map_len self.old.faults }
         ensures others { (call : ℕ) → self.old.made + 1 ≤ call → tree.get nat_cmp self.new.faults call ≡ tree.get nat_cmp self.old.faults call }
     {
         let call = self.made;
         self.made = call.saturating_add(1);
-        let kept = self.faults.remove(&call)?;
+        self.faults.remove(&call)
+    }
+
+    /// Counts a failure.
+    pub fn count_failure(&mut self)
+        ensures failed { self.new.failed ≡ min (self.old.failed + 1) (2 ^ 64 - 1) }
+        ensures later { self.old.failed ≤ self.new.failed }
+        ensures same { (self.new.made ≡ self.old.made) × (self.new.faults ≡ self.old.faults) }
+    {
         self.failed = self.failed.saturating_add(1);
-        Some(kept)
+    }
+
+    /// Counts a call that takes no memory. It fails where that is planned, and the failure is counted too.
+    pub fn pass(&mut self) -> Result<(), Failed>
+        ensures fails { MatchOption (tree.get nat_cmp self.old.faults self.old.made) (IsOk result) (λ _. IsErr result) }
+        ensures made { self.new.made ≡ min (self.old.made + 1) (2 ^ 64 - 1) }
+        ensures failed { OnErr result (self.new.failed ≡ min (self.old.failed + 1) (2 ^ 64 - 1)) }
+        ensures passed { OnOk result (self.new.failed ≡ self.old.failed) }
+        ensures later { self.old.failed ≤ self.new.failed }
+        ensures used { btree_map_len self.new.faults ≤ btree_map_len self.old.faults }
+        ensures others { (call : ℕ) → self.old.made + 1 ≤ call → tree.get nat_cmp self.new.faults call ≡ tree.get nat_cmp self.old.faults call }
+    {
+        match self.next() {
+            None => Ok(()),
+            Some(_) => {
+                self.count_failure();
+                Err(Failed)
+            }
+        }
     }
 
     /// These calls are to fail too.

@@ -1,5 +1,5 @@
 // Two calls that many layers make one after the other.
-ghost use Rattle.std.specs.Prelude.{◌≡◌, ◌≤◌, ◌+◌, ℕ, Bool, List, length, Option, IsTrue, IfOk, OnOk, MatchResult, IsErrOf};
+ghost use Rattle.std.specs.Prelude.{◌≡◌, ◌≤◌, ◌<◌, ◌+◌, ℕ, Bool, List, length, Option, IsTrue, IfOk, OnOk, MatchResult, IsErrOf};
 ghost use Rattle.gt_disk.specs.Files.{View, FileState, Content, still, grown, loose, now, Unchanged, HasDiskCause, appended};
 ghost use Rattle.gt_disk.specs.Moments.{Runs, AnyState, Growing};
 
@@ -9,8 +9,10 @@ use crate::{Disk, DiskError, FileId};
 /// after `Memory` it is unchanged.
 pub fn write_synced<D: Disk>(disk: &mut D, file: FileId, bytes: &[u8]) -> Result<(), DiskError>
     ensures still { IsTrue D.tells → OnOk result (now (D.view disk.new) file ≡ still (Some bytes.now)) }
+    ensures memory { IsTrue D.tells → IsErrOf result DiskError.Memory → Unchanged (D.view disk.old) (D.view disk.new) }
     ensures run { IsTrue D.tells → Runs file AnyState (D.view disk.old) (D.view disk.new) }
     ensures later { (D.view disk.old).clock ≤ (D.view disk.new).clock }
+    ensures moves { OnOk result ((D.view disk.old).clock < (D.view disk.new).clock) }
     ensures cause { HasDiskCause (D.fault_count disk.old) (D.fault_count disk.new) result }
     ensures counted { D.call_count disk.new ≤ D.call_count disk.old + 2 }
 {
@@ -29,6 +31,7 @@ pub fn append_synced<D: Disk>(disk: &mut D, file: FileId, bytes: &[u8]) -> Resul
     ensures memory { IsTrue D.tells → IsErrOf result DiskError.Memory → Unchanged (D.view disk.old) (D.view disk.new) }
     ensures run { IsTrue D.tells → (x : Content) → now (D.view disk.old) file ≡ still x → Runs file (Growing x bytes.now) (D.view disk.old) (D.view disk.new) }
     ensures later { (D.view disk.old).clock ≤ (D.view disk.new).clock }
+    ensures moves { OnOk result ((D.view disk.old).clock < (D.view disk.new).clock) }
     ensures cause { HasDiskCause (D.fault_count disk.old) (D.fault_count disk.new) result }
     ensures counted { D.call_count disk.new ≤ D.call_count disk.old + 2 }
 {

@@ -1,12 +1,11 @@
 // Entry n is in the log where the gate has at least n bytes.
-ghost use Rattle.std.specs.Prelude.{cond, if◌then◌else◌, ◌↔◌, ◌≡◌, ◌≤◌, ◌<◌, ◌+◌, ◌-◌, ◌^◌, ◌++◌, [], ◌∷◌, ℕ, Bool, false, true, List, length, IsTrue, IfOk, OnOk, OnErr, IfErr, IsErrOf, None};
+ghost use Rattle.std.specs.Prelude.{cond, if◌then◌else◌, ◌↔◌, ◌⊎◌, ◌≡◌, ◌≤◌, ◌<◌, ◌+◌, ◌-◌, ◌^◌, ◌++◌, [], ◌∷◌, ℕ, Bool, false, true, List, length, IsTrue, IfOk, OnOk, OnErr, IfErr, IsErrOf, None};
 ghost use Rattle.gt_disk.specs.Files.{View, Rose, Quiet, now, still, content, HasCause, HasDiskCause};
-ghost use Rattle.gt_disk.specs.Moments.{Since, Narrows, Runs, AnyState};
+ghost use Rattle.gt_disk.specs.Moments.{Since, Narrows, Runs, AnyState, Lasting};
 ghost use Rattle.gt_log.specs.Log.{gate_file, entry_file, content_length, Stands, Doubts, Recovers, KeepsEntries, Adding, AddMoment, AfterAdd, AddImages, ImagesAfterAdd, leaves_doubt, AfterSettle, HasLogCause};
 
 use crate::LogError;
-use crate::files::{GATE, entry_file};
-use gt_disk::{Disk, DiskError, Failed, append_synced, read_whole, write_synced};
+use gt_disk::{Disk, DiskError, Failed, GATE, append_synced, entry_file, read_whole, write_synced};
 use std::alloc::Global;
 use std::marker::Model;
 
@@ -52,12 +51,12 @@ impl Log {
         ensures len { IsTrue D.tells → IfOk result (λ log. log.len ≡ content_length ((D.view disk.old).reads gate_file)) }
         ensures gate { IsTrue D.tells → OnOk result (now (D.view disk.new) gate_file ≡ still ((D.view disk.old).reads gate_file)) }
         ensures narrows { IsTrue D.tells → Narrows (D.view disk.old) (D.view disk.new) }
-        // At each moment no other file changes.
-        ensures run { IsTrue D.tells → Runs gate_file AnyState (D.view disk.old) (D.view disk.new) }
+        // At each moment the gate is as it was, or what was read of it lasts, and no other file changes.
+        ensures run { IsTrue D.tells → Runs gate_file (Lasting (now (D.view disk.old) gate_file) ((D.view disk.old).reads gate_file)) (D.view disk.old) (D.view disk.new) }
         ensures later { (D.view disk.old).clock ≤ (D.view disk.new).clock }
         ensures reads { IsTrue D.tells → (D.view disk.new).reads ≡ (D.view disk.old).reads }
-        ensures stands { IsTrue D.tells → IfOk result (λ log. (entries : List (List ℕ)) → Recovers (D.view disk.old).reads entries → KeepsEntries entries (now (D.view disk.old))
-            → (log.len ≡ length entries) × Stands entries (now (D.view disk.new))) }
+        ensures stands { IsTrue D.tells → IfOk result (λ log. (first : ℕ) (entries : List (List ℕ)) → Recovers first (D.view disk.old).reads entries → KeepsEntries first entries (now (D.view disk.old))
+            → (log.len + 1 ≡ length entries + first) × Stands first entries (now (D.view disk.new))) }
     {
         disk.sync(GATE)?;
         let len = disk.len(GATE)?;
@@ -83,16 +82,16 @@ impl Log {
         ensures counted { D.call_count disk.new ≤ D.call_count disk.old + 4 }
 
         // At each moment of the call the entry is out, in or in doubt, and no other file changes.
-        ensures any_moment { IsTrue D.tells → (entries : List (List ℕ)) → self.old.len ≡ length entries → Stands entries (now (D.view disk.old))
-            → Since (AddMoment result entries bytes.now (now (D.view disk.old))) (D.view disk.old) (D.view disk.new) }
-        ensures after { IsTrue D.tells → (entries : List (List ℕ)) → self.old.len ≡ length entries → Stands entries (now (D.view disk.old))
-            → AfterAdd result entries bytes.now (now (D.view disk.new)) }
+        ensures any_moment { IsTrue D.tells → (first : ℕ) (entries : List (List ℕ)) → self.old.len + 1 ≡ length entries + first → Stands first entries (now (D.view disk.old))
+            → Since (AddMoment result first entries bytes.now (now (D.view disk.old))) (D.view disk.old) (D.view disk.new) }
+        ensures after { IsTrue D.tells → (first : ℕ) (entries : List (List ℕ)) → self.old.len + 1 ≡ length entries + first → Stands first entries (now (D.view disk.old))
+            → AfterAdd result first entries bytes.now (now (D.view disk.new)) }
 
         // So each image of each moment has the old entries, or these and the new one.
-        ensures images { IsTrue D.tells → (entries : List (List ℕ)) → self.old.len ≡ length entries → Stands entries (now (D.view disk.old))
-            → Since (AddImages result entries bytes.now) (D.view disk.old) (D.view disk.new) }
-        ensures images_after { IsTrue D.tells → (entries : List (List ℕ)) → self.old.len ≡ length entries → Stands entries (now (D.view disk.old))
-            → ImagesAfterAdd result entries bytes.now (now (D.view disk.new)) }
+        ensures images { IsTrue D.tells → (first : ℕ) (entries : List (List ℕ)) → self.old.len + 1 ≡ length entries + first → Stands first entries (now (D.view disk.old))
+            → Since (AddImages result first entries bytes.now) (D.view disk.old) (D.view disk.new) }
+        ensures images_after { IsTrue D.tells → (first : ℕ) (entries : List (List ℕ)) → self.old.len + 1 ≡ length entries + first → Stands first entries (now (D.view disk.old))
+            → ImagesAfterAdd result first entries bytes.now (now (D.view disk.new)) }
     {
         let number = self.len + 1;
         match write_synced(disk, entry_file(number), bytes) {
@@ -125,10 +124,11 @@ impl Log {
         ensures later { (D.view disk.old).clock ≤ (D.view disk.new).clock }
         ensures counted { D.call_count disk.new ≤ D.call_count disk.old + 2 }
         ensures narrows { IsTrue D.tells → Narrows (D.view disk.old) (D.view disk.new) }
-        ensures any_moment { IsTrue D.tells → (entries : List (List ℕ)) (last : List ℕ) → self.old.len ≡ length entries → Doubts entries last (now (D.view disk.old))
-            → Since (Adding entries last (now (D.view disk.old))) (D.view disk.old) (D.view disk.new) }
-        ensures after { IsTrue D.tells → (entries : List (List ℕ)) (last : List ℕ) → self.old.len ≡ length entries → Doubts entries last (now (D.view disk.old))
-            → AfterSettle result entries last self.new.len (now (D.view disk.new)) }
+        ensures run { IsTrue D.tells → Runs gate_file (Lasting (now (D.view disk.old) gate_file) ((D.view disk.old).reads gate_file)) (D.view disk.old) (D.view disk.new) }
+        ensures any_moment { IsTrue D.tells → (first : ℕ) (entries : List (List ℕ)) (last : List ℕ) → self.old.len + 1 ≡ length entries + first → Doubts first entries last (now (D.view disk.old))
+            → Since (Adding first entries last (now (D.view disk.old))) (D.view disk.old) (D.view disk.new) }
+        ensures after { IsTrue D.tells → (first : ℕ) (entries : List (List ℕ)) (last : List ℕ) → self.old.len + 1 ≡ length entries + first → Doubts first entries last (now (D.view disk.old))
+            → AfterSettle result first entries last self.new.len (now (D.view disk.new)) }
     {
         disk.sync(GATE)?; // The byte lasts before it counts.
         let len = disk.len(GATE)?;
@@ -168,11 +168,11 @@ impl Log {
         ensures later { (D.view disk.old).clock ≤ (D.view disk.new).clock }
         ensures cause { HasCause (D.fault_count disk.old) (D.fault_count disk.new) result }
         ensures counted { D.call_count disk.new ≤ D.call_count disk.old + 2 }
-        // Past the last entry and the one in doubt it changes nothing of the log.
-        ensures any_moment { IsTrue D.tells → (entries : List (List ℕ)) → length entries < n → Stands entries (now (D.view disk.old))
-            → Since (Stands entries) (D.view disk.old) (D.view disk.new) }
-        ensures after { IsTrue D.tells → (entries : List (List ℕ)) → length entries < n → Stands entries (now (D.view disk.old))
-            → Stands entries (now (D.view disk.new)) }
+        // Below the first entry, and past the last and the one in doubt, it changes nothing of the log.
+        ensures any_moment { IsTrue D.tells → (first : ℕ) (entries : List (List ℕ)) → (n < first) ⊎ (length entries + first ≤ n) → Stands first entries (now (D.view disk.old))
+            → Since (Stands first entries) (D.view disk.old) (D.view disk.new) }
+        ensures after { IsTrue D.tells → (first : ℕ) (entries : List (List ℕ)) → (n < first) ⊎ (length entries + first ≤ n) → Stands first entries (now (D.view disk.old))
+            → Stands first entries (now (D.view disk.new)) }
     {
         disk.remove(entry_file(n))?;
         disk.sync(entry_file(n))

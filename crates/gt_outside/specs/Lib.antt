@@ -1,4 +1,5 @@
 pub mod Consumed
 pub mod Failing
 pub mod Places
+pub mod Reading
 pub mod Written

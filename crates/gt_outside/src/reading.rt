@@ -1,7 +1,7 @@
-ghost use Rattle.std.specs.Prelude.{◌≡◌, ◌≤◌, ◌<◌, ◌+◌, IfOk, OnErr, IfSome, IsErrOf, length};
+ghost use Rattle.std.specs.Prelude.{◌≡◌, ◌≤◌, ◌<◌, ◌+◌, IfOk, IfSome, IsErrOf, length};
 ghost use Rattle.std.specs.Io.KnownBytes.{Consumes};
-ghost use Rattle.gt_disk.specs.Files.{Rose};
 ghost use Rattle.gt_outside.specs.Consumed.{ConsumesCount, ConsumesAtMost};
+ghost use Rattle.gt_outside.specs.Reading.{HasReadCause};
 
 use crate::Source;
 use std::alloc::Global;
@@ -20,7 +20,7 @@ pub enum ReadError {
 const PIECE: usize = 4096;
 
 /// Reads to the end: all the bytes that are left, where they are at most `limit`.
-/// `TooLong` comes exactly where they are more, and then one byte past the limit is read and none after it.
+/// `TooLong` comes exactly where they are more, and then one byte past the limit is read. None after it is ever read.
 pub fn read_whole<S: Source>(
     alloc: Global,
     source: &mut S,
@@ -32,9 +32,8 @@ pub fn read_whole<S: Source>(
     ensures taken { IfOk result (λ bytes. Consumes (S.left source.old) (S.left source.new) bytes.items) }
     ensures taken_long { IsErrOf result ReadError.TooLong →
         ConsumesCount (S.left source.old) (S.left source.new) (limit + 1) }
-    ensures taken_err { OnErr result (ConsumesAtMost (S.left source.old) (S.left source.new) (limit + 1)) }
-    ensures later { S.faults source.old ≤ S.faults source.new }
-    ensures failed { IsErrOf result ReadError.Failed → Rose (S.faults source.old) (S.faults source.new) }
+    ensures most { ConsumesAtMost (S.left source.old) (S.left source.new) (limit + 1) }
+    ensures cause { HasReadCause (S.faults source.old) (S.faults source.new) result }
 {
     let mut all = Vec::new(alloc);
     let mut piece = [0u8; PIECE];

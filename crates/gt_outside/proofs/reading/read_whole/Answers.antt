@@ -3,8 +3,8 @@ use Rattle.std.proofs.lemmas.Grind.{common_steps}
 use Rattle.gt_outside.proofs.Pieces.{consumes_then}
 use Rattle.gt_outside.proofs.reading.read_whole.Goals as goal
 
-pub returns-then-is_err-clause-taken_err : goal.returns-then-is_err-clause-taken_err
-returns-then-is_err-clause-taken_err g c =
+pub returns-then-is_err-clause-most : goal.returns-then-is_err-clause-most
+returns-then-is_err-clause-most g c =
     let left = g.S.Source.left in
     record {
       bytes = c.pieces.all.items ++ take c.in-Ok.count c.read.new.into;

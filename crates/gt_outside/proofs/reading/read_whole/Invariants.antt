@@ -1,4 +1,4 @@
-use Rattle.std.proofs.Common.{◌≤◌, ◌+◌, ◌-◌, vec_len}
+use Rattle.std.proofs.Common.{◌≡◌, ◌≤◌, ◌+◌, ◌-◌, vec_len}
 use Rattle.std.specs.Io.KnownBytes.{Consumes}
 use Rattle.gt_outside.proofs.reading.read_whole.Given as goal
 
@@ -10,7 +10,7 @@ invariant-pieces g l =
     record {
       done : Consumes (left l.fn.source) (left l.source) l.all.items;
       within : vec_len l.all ≤ l.limit + 1;
-      later : faults l.fn.source ≤ faults l.source;
+      same : faults l.source ≡ faults l.fn.source;
     }
 
 abbrev pub decreases-pieces : goal.decreases-pieces

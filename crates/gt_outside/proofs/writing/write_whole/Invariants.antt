@@ -1,4 +1,4 @@
-use Rattle.std.proofs.Common.{◌≤◌, ◌-◌, length, take}
+use Rattle.std.proofs.Common.{◌≡◌, ◌≤◌, ◌-◌, length, take}
 use Rattle.gt_outside.specs.Written.{AppendsAll}
 use Rattle.gt_outside.proofs.writing.write_whole.Given as goal
 
@@ -10,7 +10,7 @@ invariant-pieces g l =
     record {
       within : l.at ≤ length l.bytes;
       done : AppendsAll (written l.fn.sink) (written l.sink) (take l.at l.bytes);
-      later : faults l.fn.sink ≤ faults l.sink;
+      same : faults l.sink ≡ faults l.fn.sink;
     }
 
 abbrev pub decreases-pieces : goal.decreases-pieces
