@@ -1,3 +1,3 @@
-/// Every slot keeps a position.
+/// As many are kept or live as the limit says.
 #[derive(Clone, Copy, Debug, PartialEq, Eq)]
 pub struct PinsFull;

@@ -1,0 +1,3 @@
+pub mod LiveLists
+pub mod Numbers
+pub mod Positions
