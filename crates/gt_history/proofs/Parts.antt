@@ -1,5 +1,5 @@
 -- What the files of a state may recover to has the contents of that state.
-use Rattle.std.proofs.Common.{◌≡◌, ℕ, zero, suc, ◌+◌, ◌-◌, ◌≤◌, List, [], ◌∷◌, ◌++◌, length, take, refl, sym, ◌∙◌, ap, arith, length-append}
+use Rattle.std.proofs.Common.{◌≡◌, ℕ, suc, ◌+◌, ◌-◌, ◌≤◌, List, [], ◌∷◌, ◌++◌, length, take, sym, ◌∙◌, ap, arith, length-append}
 use Rattle.std.proofs.lemmas.List.{take-append-le}
 use Rattle.gt_model.specs.declared.entry.Entry.{Entry}
 use Rattle.gt_model.specs.Contents.{Content, after_all}
@@ -19,12 +19,12 @@ part_content old new p position ge le =
     let at : position - old.begin ≡ length p.passed + k = omega (arith, p.begin, ge) in
     let within : k ≤ length new.log = omega (arith, le, ge) in
     sym (
-      ap (λ (n : ℕ). after_all old.base (take n (line old))) at
-      ∙ ap (λ (l : List Entry). after_all old.base (take (length p.passed + k) l)) p.whole
-      ∙ ap (after_all old.base) (take_past p.passed (new.log ++ p.rest) k)
-      ∙ after_all-append old.base p.passed (take k (new.log ++ p.rest))
-      ∙ ap (after_all (after_all old.base p.passed)) (take-append-le k new.log p.rest within)
-      ∙ ap (λ (c : Content). after_all c (take k new.log)) (sym p.base)
+    ap (λ (n : ℕ). after_all old.base (take n (line old))) at
+    ∙ ap (λ (l : List Entry). after_all old.base (take (length p.passed + k) l)) p.whole
+    ∙ ap (after_all old.base) (take_past p.passed (new.log ++ p.rest) k)
+    ∙ after_all-append old.base p.passed (take k (new.log ++ p.rest))
+    ∙ ap (after_all (after_all old.base p.passed)) (take-append-le k new.log p.rest within)
+    ∙ ap (λ (c : Content). after_all c (take k new.log)) (sym p.base)
     )
 
 pub recovered_on : (s : State) (r : Recovered) → IsInOrder s → MayRecover s r → IsOn s (opening r)

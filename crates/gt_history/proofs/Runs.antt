@@ -1,5 +1,5 @@
 -- How a history goes on.
-use Rattle.std.proofs.Common.{◌≡◌, inl, inr, ⊎_elim, ℕ, ◌+◌, ◌<◌, ◌≤◌, List, [], ◌∷◌, ◌++◌, reverse, None, Result, Ok, refl, sym, ◌∙◌, ap, subst, arith}
+use Rattle.std.proofs.Common.{◌≡◌, inl, inr, ℕ, ◌+◌, ◌<◌, ◌≤◌, List, [], ◌∷◌, ◌++◌, reverse, Result, Ok, refl, sym, ◌∙◌, ap, subst, arith}
 use Rattle.std.specs.List.{AllByRecursion}
 use Rattle.std.proofs.lemmas.Bool.{cases_lt}
 use Rattle.std.proofs.lemmas.List.{reverse-append}
@@ -14,7 +14,7 @@ use Rattle.gt_model.specs.Histories.{Happening, event, opened, last_tick, last_s
 use Rattle.gt_model.proofs.Openings.{opening_order}
 use Rattle.gt_sound.specs.Sound.{IsSoundState, IsKnown}
 use Rattle.gt_sound.proofs.Steps.{step_on_any_sound, may_recover_sound}
-use Rattle.gt_history.specs.Crash.{IsSteady, AreSteady, Gives, GivesThis, GivesEither, IsGood, Run, CrashAt, Holds}
+use Rattle.gt_history.specs.Crash.{IsSteady, Gives, GivesThis, GivesEither, IsGood, Run, CrashAt, Holds}
 use Rattle.gt_history.specs.Runs.{KeepsPast, Moves, IsHistory}
 use Rattle.gt_history.proofs.Safe.{same_ok, safe, safe_after, run_steady, run_past, run_sound, run_in_order}
 

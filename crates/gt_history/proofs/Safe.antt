@@ -1,17 +1,17 @@
 -- A history is safe at each of its moments.
-use Rattle.std.proofs.Common.{◌≡◌, ◌⊎◌, inl, inr, ⊎_elim, ℕ, ◌+◌, ◌<◌, ◌≤◌, max, Bool, true, false, nat_lt, cond, List, [], ◌∷◌, Result, Ok, refl, sym, ◌∙◌, ap, subst, arith}
+use Rattle.std.proofs.Common.{◌≡◌, inl, inr, ⊎_elim, ℕ, ◌+◌, ◌<◌, ◌≤◌, max, Bool, true, false, nat_lt, cond, List, [], ◌∷◌, Result, Ok, refl, sym, ◌∙◌, ap, subst, arith}
 use Rattle.std.proofs.lemmas.Bool.{cases_lt}
 use Rattle.std.proofs.lemmas.Bool.Decides.{nat_tests}
 use Rattle.gt_disk.specs.declared.file_id.FileId.{FileId}
 use Rattle.gt_disk.specs.Files.{Files, States, IsImage}
 use Rattle.gt_model.specs.declared.limits.Limits.{Limits}
 use Rattle.gt_model.specs.Contents.{IsLegal}
-use Rattle.gt_model.specs.Machine.{State, Recovered, MayRecover, IsInOrder, opening, front}
+use Rattle.gt_model.specs.Machine.{State, Recovered, IsInOrder, opening, front}
 use Rattle.gt_model.specs.Histories.{Happening, tick, state, acks, last_tick, last_state, acked, around, IsRun}
 use Rattle.gt_model.proofs.Runs.{run_acked, run_order}
 use Rattle.gt_sound.specs.Sound.{IsSoundState}
 use Rattle.gt_sound.proofs.Steps.{may_recover_sound}
-use Rattle.gt_history.specs.Crash.{IsOn, IsSafe, AreSteady, Gives, GivesThis, GivesEither, Leaves, Run}
+use Rattle.gt_history.specs.Crash.{IsSafe, AreSteady, Gives, GivesThis, GivesEither, Run}
 use Rattle.gt_history.proofs.Parts.{recovered_on, recovered_long}
 
 pub lt_true : (m n : ℕ) → m < n → nat_lt m n ≡ true

@@ -1,7 +1,6 @@
 -- What the disk and memory can and cannot do to a step.
-use Rattle.std.proofs.Common.{rules, ◌≡◌, ◌⊎◌, inl, inr, ℕ, ◌+◌, Bool, true, false, cond, not, ◌||◌, nat_le, List, [], ◌∷◌, length, take, Option, Some, None, Result, Ok, Err, refl, sym, ◌∙◌, ap, subst, true≢false, is_ok}
+use Rattle.std.proofs.Common.{rules, ◌≡◌, ◌⊎◌, inl, inr, ℕ, ◌+◌, Bool, true, false, cond, ◌||◌, nat_le, List, [], ◌∷◌, length, take, None, Result, Ok, Err, sym, ap, subst}
 use Rattle.gt_model.specs.declared.done.Done.{Done}
-use Rattle.gt_model.specs.declared.done.Done.TheVariants.{Applied}
 use Rattle.gt_model.specs.declared.entry.Entry.{Entry}
 use Rattle.gt_model.specs.declared.event.Event.{Event}
 use Rattle.gt_model.specs.declared.event.Event.TheVariants.{Apply}
@@ -9,7 +8,7 @@ use Rattle.gt_model.specs.declared.limits.Limits.{Limits}
 use Rattle.gt_model.specs.declared.refusal.Refusal.{Refusal}
 use Rattle.gt_model.specs.declared.refusal.Refusal.TheVariants.{DeviceFault, EpochFull}
 use Rattle.gt_model.specs.Batches.{new_files}
-use Rattle.gt_model.specs.Machine.{State, Pin, Applying, entries_past, has_no_number, Effect, refuses, answers, applies, applied_by, first_refusal, effect, Ends, Fails, Acts, FailsToSettle, Step}
+use Rattle.gt_model.specs.Machine.{State, Pin, Applying, entries_past, has_no_number, Effect, refuses, applies, applied_by, effect, Ends, Fails, Acts, FailsToSettle, Step}
 use Rattle.gt_model.proofs.Decided.{all_settled}
 
 abbrev pub fault_of : Result Done Refusal → Refusal

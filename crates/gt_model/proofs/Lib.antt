@@ -1,4 +1,5 @@
 pub mod Checks
+pub mod Damage
 pub mod Decided
 pub mod Faults
 pub mod Logs
@@ -9,4 +10,5 @@ pub mod Openings
 pub mod Runs
 pub mod Sound
 pub mod Steps
+pub mod Units
 pub mod Values

@@ -1,6 +1,6 @@
 -- Members of lists, and of what is made of lists.
-use Rattle.std.proofs.Common.{◌≡◌, ◌⊎◌, inl, inr, ℕ, ◌+◌, ◌-◌, ◌<◌, suc, zero, Bool, true, false, cond, is_some, IsTrue, List, [], ◌∷◌, ◌++◌, length, map as map_list, filter, Option, Some, None, refl, sym, ◌∙◌, ap, subst, arith, true≢false}
-use Rattle.std.specs.List.{IsAmong, filter_map, flat_map}
+use Rattle.std.proofs.Common.{◌≡◌, ◌⊎◌, inl, inr, ℕ, suc, zero, Bool, true, false, cond, is_some, IsTrue, List, [], ◌∷◌, ◌++◌, map as map_list, filter, Some, refl, sym, ◌∙◌, ap, arith, true≢false}
+use Rattle.std.specs.List.{IsAmong}
 use Rattle.std.specs.Ordering.{eq_by_cmp}
 use Rattle.std.specs.Cmp.Lexicographic.{nat_list_cmp_total, nat_list_eq_equiv, texts_ties}
 use Rattle.std.specs.FinMap as map

@@ -1,14 +1,12 @@
 -- A commit whose verdict is good says what it needs.
-use Rattle.std.proofs.Common.{◌≡◌, ◌⊎◌, inl, inr, ℕ, Bool, true, false, not, ◌&&◌, cond, is_some, is_ok, IsTrue, List, [], ◌∷◌, ◌++◌, map as map_list, filter, Option, Some, None, Result, Ok, Err, refl, sym, ◌∙◌, ap, subst, All, true≢false, arith}
+use Rattle.std.proofs.Common.{◌≡◌, ◌⊎◌, inl, inr, ℕ, Bool, true, false, not, ◌&&◌, is_some, is_ok, IsTrue, List, [], ◌∷◌, ◌++◌, map as map_list, Option, Some, None, Result, Ok, Err, refl, sym, ◌∙◌, ap, subst, true≢false}
 use Rattle.std.specs.List.{AllByRecursion, IsAmong, filter_map, flat_map}
 use Rattle.std.specs.Cmp.Lexicographic.{nat_list_cmp_total}
 use Rattle.std.specs.FinMap as map
 use Rattle.std.specs.FinMap.{get-from_entries, get-entries}
 use Rattle.gt_object.specs.Whole.{deps}
 use Rattle.gt_model.specs.declared.added.Added.{Added}
-use Rattle.gt_model.specs.declared.change.Change.{Change}
 use Rattle.gt_model.specs.declared.change.Change.TheVariants.{Write}
-use Rattle.gt_model.specs.declared.entry.Entry.{Entry}
 use Rattle.gt_model.specs.declared.refusal.Refusal.{Refusal}
 use Rattle.gt_model.specs.Contents.{Content, key_cmp, is_visible}
 use Rattle.gt_model.specs.Verdicts.{Staged, Ready, target, is_staged, is_added, by_name, added_records, needed_names, failed, verdict}
@@ -45,7 +43,7 @@ value_named name v (e ∷ es) h at = by (λ at. value_named name v es h.1 at) (c
 pub staged_listed : (c : Content) (path : List ℕ) (s : Staged) (name : List ℕ) → IsTrue (is_staged s name) → is_visible c path name ≡ false → IsAmong (map_list (λ a. a.name) (added_records c path s)) name
 staged_listed c path s name staged hidden =
     let got : IsTrue (is_some (map.find key_cmp name (map.entries (named s.records)))) =
-            sym (ap is_some (sym (get-from_entries nat_list_cmp_total (map_list (λ a. (a.name, a)) s.records) name) ∙ get-entries (named s.records) name)) ∙ find_staged name s.records staged in
+    sym (ap is_some (sym (get-from_entries nat_list_cmp_total (map_list (λ a. (a.name, a)) s.records) name) ∙ get-entries (named s.records) name)) ∙ find_staged name s.records staged in
     let at = found_key name (map.entries (named s.records)) got in
     let v = value_named name at.0 (map.entries (named s.records)) (entries_named (λ a. Unit {0}) s.records (every s.records)) at.1 in
     let kept : not (is_visible c path at.0.name) ≡ true = ap (λ (n : List ℕ). not (is_visible c path n)) v.0 ∙ ap not hidden in

@@ -1,12 +1,12 @@
 -- What files may recover to has a front of the log that was written, and is in order once it is opened.
-use Rattle.std.proofs.Common.{◌≡◌, inl, inr, ℕ, ◌+◌, ◌-◌, ◌≤◌, max, true, List, [], ◌∷◌, ◌++◌, length, take, drop, fold, Option, Some, None, refl, sym, ◌∙◌, ap, subst, arith, length-append, append-nil, append_assoc}
+use Rattle.std.proofs.Common.{◌≡◌, inl, inr, ℕ, ◌+◌, ◌-◌, ◌≤◌, max, true, List, [], ◌∷◌, ◌++◌, length, take, drop, Option, Some, None, refl, sym, ◌∙◌, ap, subst, arith, append-nil, append_assoc}
 use Rattle.std.proofs.lemmas.List.{take-append-drop, length-take, length-drop}
 use Rattle.gt_model.specs.declared.entry.Entry.{Entry}
 use Rattle.gt_model.specs.Contents.{Content, after_all}
 use Rattle.gt_model.specs.Batches.{next_past, file_of}
-use Rattle.gt_model.specs.Machine.{State, Recovered, Applying, line, with_doubt, front, content_at, entries_past, opening, recovered_of, turned, turned_by, SettledEntry, SettledTurn, MayRecover, Settles, IsInOrder}
+use Rattle.gt_model.specs.Machine.{State, Recovered, Applying, line, front, opening, recovered_of, turned_by, SettledEntry, SettledTurn, MayRecover, Settles, IsInOrder}
 use Rattle.gt_model.specs.Histories.{IsPart}
-use Rattle.gt_model.proofs.Steps.{Grows, grown_longer, entry_grows, turn_grows, line_more}
+use Rattle.gt_model.proofs.Steps.{grown_longer, entry_grows, turn_grows, line_more}
 
 next_above : (next : ℕ) (log : List Entry) → next ≤ next_past next log
 next_above next [] = omega arith

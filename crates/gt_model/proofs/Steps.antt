@@ -1,5 +1,5 @@
 -- A step keeps a state in order, its log only grows, and what it acknowledges is in the log.
-use Rattle.std.proofs.Common.{◌≡◌, inl, inr, ℕ, ◌+◌, ◌-◌, ◌≤◌, min, Bool, true, false, cond, not, ◌&&◌, ◌||◌, is_some, is_none, IsTrue, nat_eq, nat_lt, nat_le, List, [], ◌∷◌, ◌++◌, length, map, take, find, filter, fold, Option, Some, None, Result, Ok, Err, refl, sym, ◌∙◌, ap, subst, arith, length-append, append-nil, append_assoc, true≢false}
+use Rattle.std.proofs.Common.{◌≡◌, inl, inr, ℕ, ◌+◌, ◌-◌, ◌≤◌, min, Bool, true, false, cond, not, ◌&&◌, ◌||◌, is_some, is_none, IsTrue, nat_eq, nat_lt, nat_le, List, [], ◌∷◌, ◌++◌, length, take, find, fold, Option, Some, None, Result, Ok, Err, refl, sym, ◌∙◌, ap, subst, arith, length-append, append-nil, append_assoc, true≢false}
 use Rattle.std.specs.List.{AllByRecursion}
 use Rattle.std.specs.Option.{option_map, unwrap_or}
 use Rattle.std.proofs.lemmas.Bool.Decides.{nat_tests}
@@ -7,21 +7,21 @@ use Rattle.std.proofs.lemmas.List.{length-take, length-drop}
 use Rattle.gt_model.specs.declared.added.Added.{Added}
 use Rattle.gt_model.specs.declared.change.Change.TheVariants.{Create as CreateChange, Delete as DeleteChange, Link as LinkChange, Write}
 use Rattle.gt_model.specs.declared.done.Done.{Done}
-use Rattle.gt_model.specs.declared.done.Done.TheVariants.{Created, Deleted, Linked, Begun, Committed, Finished, HouseDone, Applied, Trimmed, Step as StepDone}
+use Rattle.gt_model.specs.declared.done.Done.TheVariants.{Created, Deleted, Linked, Begun, Committed, Finished, HouseDone, Step as StepDone}
 use Rattle.gt_model.specs.declared.entry.Entry.{Entry}
 use Rattle.gt_model.specs.declared.event.Event.{Event}
 use Rattle.gt_model.specs.declared.event.Event.TheVariants.{Create, Delete, Link, Begin, GetRef, ListRefs, Cat, Commit, Abort, HouseOpen, HouseStep, HouseCommit, Apply, Trim, Sweep}
 use Rattle.gt_model.specs.declared.job.Job.{Job}
 use Rattle.gt_model.specs.declared.limits.Limits.{Limits}
 use Rattle.gt_model.specs.declared.refusal.Refusal.{Refusal}
-use Rattle.gt_model.specs.declared.refusal.Refusal.TheVariants.{NoRepository, RepositoryExists, Behind, PinsFull, LogFull, EpochFull, PoolInUse, IsPool, NotPool, AlreadyLinked, NotLinked, Damaged}
+use Rattle.gt_model.specs.declared.refusal.Refusal.TheVariants.{NoRepository, RepositoryExists, Behind, PinsFull, LogFull, EpochFull, PoolInUse, IsPool, NotPool, AlreadyLinked, NotLinked}
 use Rattle.gt_model.specs.declared.update.RefUpdate.{RefUpdate}
 use Rattle.gt_model.specs.Contents.{Content, has_repo, is_pool, pool_of, found, least_member}
 use Rattle.gt_model.specs.Verdicts.{Staged, Ready, verdict, added_records}
 use Rattle.gt_model.specs.Jobs.{job_change}
 use Rattle.gt_model.specs.Conflicts.{is_unlink, job_conflict}
 use Rattle.gt_model.specs.Batches.{new_files}
-use Rattle.gt_model.specs.Machine.{Work, Pin, State, Applying, with_doubt, line, front, content, content_at, entries_past, released, reading, free_number, pin_of, work_of, with_work, working, fewer, stepped, low_water, is_full, has_no_number, is_ready_job, next_entry, Effect, refuses, answers, adds, opens, works, applies, removes, by_units, by_dropped, first_refusal, unless, object, committed, is_empty, opened_job, closed_job, applied_by, effect, settles, settles_turn, with_pins, with_floor, with_entry, with_job, turned, turned_by, numbered, Ends, after_fault, Fails, RunsOut, Acts, SettledEntry, SettledTurn, Settled, FailsToSettle, Step, StepOnAny, IsWorkIn, IsPinIn, IsTurningIn, IsDoubtIn, IsInOrder}
+use Rattle.gt_model.specs.Machine.{Work, Pin, State, Applying, with_doubt, line, front, content, content_at, entries_past, released, reading, free_number, pin_of, work_of, with_work, working, fewer, stepped, is_full, has_no_number, is_ready_job, next_entry, Effect, refuses, answers, adds, opens, works, applies, removes, by_units, by_dropped, first_refusal, unless, object, committed, is_empty, opened_job, closed_job, applied_by, effect, settles, settles_turn, with_pins, with_floor, with_entry, with_job, turned, turned_by, numbered, Ends, after_fault, Fails, RunsOut, Acts, SettledEntry, SettledTurn, Settled, FailsToSettle, Step, StepOnAny, IsWorkIn, IsPinIn, IsTurningIn, IsInOrder}
 use Rattle.gt_model.specs.Histories.{position, done_position, kept}
 
 -- ---- what is live

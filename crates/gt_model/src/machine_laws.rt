@@ -11,7 +11,10 @@ ghost use Rattle.gt_model.specs.declared.limits.Limits.{Limits};
 ghost use Rattle.gt_model.specs.declared.refusal.Refusal.{Refusal};
 ghost use Rattle.gt_model.specs.declared.refusal.Refusal.TheVariants.{DeviceFault, Damaged};
 ghost use Rattle.gt_model.specs.declared.update.RefUpdate.{RefUpdate};
-ghost use Rattle.gt_model.specs.Machine.{State, Pin, Recovered, opening, effect, refuses, Step, StepOnAny, MayRecover, IsInOrder, front, is_live, is_live_as, is_transaction, is_job, is_ready_job, with_pins, released, low_water};
+ghost use Rattle.gt_model.specs.Machine.{State, Pin, Recovered, opening, effect, refuses, Step, StepOnAny, MayRecover, IsInOrder, front, is_live, is_live_as, is_transaction, is_job, is_ready_job, with_pins, released, low_water, is_free};
+ghost use Rattle.gt_model.specs.declared.job.Job.{Job};
+ghost use Rattle.gt_model.specs.Contents.{Content};
+ghost use Rattle.gt_model.specs.Jobs.{AreUnits, IsPruned};
 ghost use Rattle.gt_model.specs.Histories.{Happening, IsPart, position, last_state, acked, IsRun};
 
 /// A step leaves a state in order, entries only join its log, and the position that it acknowledges is in the log.
@@ -81,4 +84,21 @@ pub fn failed_applications_stay()
 /// A transaction or a job is always given up.
 pub fn aborts_are_certain()
     ensures { (limits : Limits) (old new : State) (pin : ℕ) (answer : Result Done Refusal) → StepOnAny limits old (Abort pin) answer new → (answer ≡ Ok Aborted) × (new ≡ with_pins old (released old.pins pin)) }
+{}
+
+/// Over a disk that holds what was written to it no event finds anything damaged.
+pub fn nothing_is_damaged()
+    ensures { (limits : Limits) (old new : State) (event : Event) (file : FileId) (place : ℕ) → Step limits old event (Err (Damaged file place)) new → ⊥ }
+{}
+
+/// With nothing in doubt, and without want of memory and faults, an event is answered in one way and leaves one state.
+pub fn steps_are_decided()
+    ensures { (limits : Limits) (event : Event) (old one two : State) (a b : Result Done Refusal) → old.doubt ≡ None → old.turning ≡ None → is_free a ≡ false → is_free b ≡ false
+        → Step limits old event a one → Step limits old event b two → (a ≡ b) × (one ≡ two) }
+{}
+
+/// A prune drops one list of names, and marks so many pairs.
+pub fn prunes_are_decided()
+    ensures dropped { (c : Content) (path : List ℕ) (one two : List (List ℕ)) → IsPruned c path one → IsPruned c path two → one ≡ two }
+    ensures units { (c : Content) (path : List ℕ) (job : Job) (one two : ℕ) → AreUnits c path job one → AreUnits c path job two → one ≡ two }
 {}

@@ -1,5 +1,5 @@
 -- Logs whose contents are sound and whose entries say what they need.
-use Rattle.std.proofs.Common.{◌≡◌, inl, inr, ℕ, zero, suc, List, [], ◌∷◌, ◌++◌, take, Option, Some, None, refl, sym, ◌∙◌, ap, subst, All}
+use Rattle.std.proofs.Common.{◌≡◌, ℕ, zero, suc, List, [], ◌∷◌, ◌++◌, Option, Some, None, sym, ◌∙◌, ap}
 use Rattle.std.specs.List.{AllByRecursion}
 use Rattle.std.specs.FinMap as map
 use Rattle.std.specs.FinMap.{get-empty}
@@ -7,7 +7,7 @@ use Rattle.std.proofs.lemmas.List.Elements.{recursion_from_All, All-from_recursi
 use Rattle.gt_model.specs.declared.entry.Entry.{Entry}
 use Rattle.gt_model.specs.Contents.{Content, nothing, key_cmp, and_then, after, after_all}
 use Rattle.gt_model.specs.Soundness.{IsSound, AreSound}
-use Rattle.gt_model.specs.Needed.{HasNeeded, AreNeeded}
+use Rattle.gt_model.specs.Needed.{HasNeeded}
 use Rattle.gt_model.specs.Machine.{State, with_doubt, line, opening, unapplied}
 use Rattle.gt_model.proofs.Checks.{some_none}
 use Rattle.gt_sound.specs.Sound.{IsSoundState}

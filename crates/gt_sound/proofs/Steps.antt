@@ -1,7 +1,6 @@
 -- A step and an opening leave each content sound, and each entry says what it needs.
-use Rattle.std.proofs.Common.{◌≡◌, inl, inr, ℕ, ◌+◌, Bool, true, false, cond, not, ◌&&◌, ◌||◌, is_none, nat_lt, nat_le, List, [], ◌∷◌, ◌++◌, length, take, Option, Some, None, Result, Ok, Err, refl, sym, ◌∙◌, ap, subst, All}
+use Rattle.std.proofs.Common.{◌≡◌, inl, inr, ℕ, ◌+◌, Bool, true, false, cond, not, ◌&&◌, ◌||◌, is_none, nat_lt, nat_le, List, [], ◌∷◌, ◌++◌, length, take, Option, Some, None, Result, Ok, Err, refl, sym, subst, All}
 use Rattle.std.specs.Option.{option_map}
-use Rattle.std.specs.List.{IsAmong}
 use Rattle.sha1.specs.Sha1.{sha1}
 use Rattle.gt_model.specs.declared.added.Added.{Added}
 use Rattle.gt_model.specs.declared.change.Change.TheVariants.{Create as CreateChange, Delete as DeleteChange, Write}
@@ -15,13 +14,13 @@ use Rattle.gt_model.specs.declared.limits.Limits.{Limits}
 use Rattle.gt_model.specs.declared.refusal.Refusal.{Refusal}
 use Rattle.gt_model.specs.declared.refusal.Refusal.TheVariants.{NoRepository, RepositoryExists, Behind, PinsFull, LogFull, EpochFull, PoolInUse, NotLinked}
 use Rattle.gt_model.specs.declared.update.RefUpdate.{RefUpdate}
-use Rattle.gt_model.specs.Contents.{Content, has_repo, pool_of, found, least_member, after, after_all}
+use Rattle.gt_model.specs.Contents.{Content, has_repo, pool_of, found, least_member, after}
 use Rattle.gt_model.specs.Soundness.{IsSound}
 use Rattle.gt_model.specs.Verdicts.{Staged, Ready, verdict, added_records}
 use Rattle.gt_model.specs.Needed.{HasNeeded}
 use Rattle.gt_model.specs.Conflicts.{is_unlink}
 use Rattle.gt_model.specs.Batches.{new_files}
-use Rattle.gt_model.specs.Machine.{Pin, State, Applying, Recovered, line, front, content, content_at, entries_past, released, reading, free_number, pin_of, is_full, has_no_number, is_ready_job, next_entry, Effect, refuses, answers, adds, opens, works, applies, removes, by_units, by_dropped, first_refusal, unless, object, committed, is_empty, opened_job, applied_by, effect, settles, settles_turn, turned_by, after_fault, Ends, Fails, RunsOut, Acts, SettledEntry, SettledTurn, Settled, FailsToSettle, Step, StepOnAny, MayRecover, IsInOrder, opening}
+use Rattle.gt_model.specs.Machine.{Pin, State, Applying, Recovered, line, front, content, content_at, entries_past, released, reading, free_number, pin_of, is_full, has_no_number, is_ready_job, next_entry, Effect, refuses, answers, adds, opens, works, applies, removes, by_units, by_dropped, first_refusal, unless, object, committed, is_empty, opened_job, applied_by, effect, settles, settles_turn, turned_by, after_fault, Ends, Fails, RunsOut, Acts, SettledEntry, SettledTurn, Step, StepOnAny, MayRecover, IsInOrder, opening}
 use Rattle.gt_model.specs.Histories.{IsPart}
 use Rattle.gt_model.proofs.Sound.{commit_sound}
 use Rattle.gt_model.proofs.Needs.{good_needs}

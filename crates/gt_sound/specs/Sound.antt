@@ -1,5 +1,5 @@
 -- States whose contents are sound, and the events that are known to leave them so.
-use Rattle.std.specs.Prelude.{◌≡◌, ℕ, List}
+use Rattle.std.specs.Prelude.{◌≡◌}
 use Rattle.std.specs.List.{All}
 use Rattle.sha1.specs.Sha1.{sha1}
 use Rattle.gt_model.specs.declared.event.Event.{Event}

@@ -1,4 +1,4 @@
-use Rattle.std.proofs.Common.{◌∙◌, ℕ, length, ap}
+use Rattle.std.proofs.Common.{◌∙◌, ℕ, ap}
 use Rattle.std.specs.Option.{option_copied}
 use Rattle.gt_model.specs.Contents.{nothing, at, least_member}
 use Rattle.gt_table.specs.Table.{nowhere}

@@ -1,5 +1,3 @@
-use Rattle.std.proofs.Common.{sym, ◌∙◌}
-use Rattle.gt_model.specs.Contents.{nothing}
 use Rattle.gt_table.proofs.FollowLaws.{began}
 use Rattle.gt_table.proofs.table.Table.new.Goals as goal
 
