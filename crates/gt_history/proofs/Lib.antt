@@ -1,3 +1,4 @@
 pub mod Parts
 pub mod Safe
+pub mod Moves
 pub mod Runs

@@ -7,7 +7,7 @@ use Rattle.gt_model.specs.declared.limits.Limits.{Limits}
 use Rattle.gt_model.specs.declared.turn.Turn.{Turn}
 use Rattle.gt_model.specs.Machine.{State, Recovered}
 use Rattle.gt_model.specs.Histories.{Happening, turns, last_state, last_tick}
-use Rattle.gt_history.specs.Crash.{GivesEither, Run}
+use Rattle.gt_history.specs.Crash.{GivesThis, GivesEither, Run}
 
 -- What was told of the past stands.
 pub record KeepsPast (old new : View) : Type 0 where
@@ -18,6 +18,10 @@ module _ {B : Type 0} (recover : Files → Result Recovered B) (Keeps : Recovere
   -- An event leaves the new state in the files, and at each of its moments each image gives the old state or the new one.
   abbrev pub Moves : State → State → View → View → Type 0
   Moves old new v w = Stored old (now v) → Stored new (now w) × Since (GivesEither recover Keeps counters old new) v w
+
+  -- What is in doubt is settled: each image gives the old state still.
+  abbrev pub Settling : State → State → View → View → Type 0
+  Settling old new v w = Stored old (now v) → Stored new (now w) × Since (GivesThis recover Keeps counters old) v w
 
   -- The history leads from the start to a state that the files have now. The trail is its events since the last opening.
   pub record IsHistory (limits : Limits) (start : State) (begin : ℕ) (history : List Happening) (view : View) (trail : List Turn) : Type 0 where
