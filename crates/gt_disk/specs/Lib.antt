@@ -7,3 +7,4 @@ pub mod Moments
 pub mod Plan
 pub mod Shows
 pub mod Stopped
+pub mod Untold

@@ -1,5 +1,6 @@
 pub mod Consumed
 pub mod Failing
 pub mod Places
+pub mod Plans
 pub mod Reading
 pub mod Written

@@ -16,6 +16,8 @@ pub struct MemHost {
 }
 
 impl MemHost {
+    ghost use Rattle.gt_outside.specs.Plans.{host_plan, IsAsListed};
+
     /// A host of these nine disks, from 0 to 8. Its calls of `take` of these numbers, from 0, fail.
     #[tactic(auto, using(crate::proofs::PlacesLemmas::all_here_disks, crate::proofs::PlacesLemmas::none_out))]
     pub fn new(alloc: Global, disks: Vec<MemDisk>, faults: &[u64]) -> Result<MemHost, NoMemory>
@@ -26,6 +28,7 @@ impl MemHost {
         ensures counts { IfOk result (λ host. (n : ℕ) → IfSome (slice_get disks.items n) (λ disk.
             ⟦<MemHost as Host>⟧.disk_faults host n ≡ ⟦<MemDisk as Disk>⟧.fault_count disk)) }
         ensures faults { IfOk result (λ host. ⟦<MemHost as Host>⟧.faults host ≡ 0) }
+        ensures plan { IfOk result (λ host. IsAsListed (host_plan host) faults.now) }
     {
         let places = places_of(alloc, disks)?;
         let calls = FailingCalls::new(alloc, faults)?;
@@ -48,7 +51,11 @@ impl MemHost {
 impl Host for MemHost {
     type D = MemDisk;
 
+    ghost use Rattle.std.specs.Prelude.{◌≢◌, OnOk, OnErr, IsErr};
+    ghost use Rattle.gt_disk.specs.Files.{HasCause};
+    ghost use Rattle.gt_outside.specs.Failing.{IsPlanned, IsCounted};
     ghost use Rattle.gt_outside.specs.Places.{is_out_at, known_at, no_view};
+    ghost use Rattle.gt_outside.specs.Plans.{host_plan};
 
     ghost faults = { λ host. host.calls.faults };
 
@@ -58,7 +65,19 @@ impl Host for MemHost {
 
     ghost disk_view = { λ host n. known_at ⟦<MemDisk as Disk>⟧.view no_view host.places.items n };
 
-    fn take(&mut self, number: u8) -> Result<MemDisk, Failed> {
+    fn take(&mut self, number: u8) -> Result<MemDisk, Failed>
+        requires here { ⟦<MemHost as Host>⟧.is_out self.old number ≡ false }
+        ensures view { IfOk result (λ disk. ⟦<MemDisk as Disk>⟧.view disk ≡ ⟦<MemHost as Host>⟧.disk_view self.old number) }
+        ensures count { IfOk result (λ disk. ⟦<MemDisk as Disk>⟧.fault_count disk ≡ ⟦<MemHost as Host>⟧.disk_faults self.old number) }
+        ensures out { OnOk result (⟦<MemHost as Host>⟧.is_out self.new number ≡ true) }
+        ensures err { OnErr result (⟦<MemHost as Host>⟧.is_out self.new number ≡ false) }
+        ensures others { (n : ℕ) → n ≢ number → ⟦<MemHost as Host>⟧.is_out self.new n ≡ ⟦<MemHost as Host>⟧.is_out self.old n }
+        ensures views { (n : ℕ) → ⟦<MemHost as Host>⟧.disk_view self.new n ≡ ⟦<MemHost as Host>⟧.disk_view self.old n }
+        ensures counts { (n : ℕ) → ⟦<MemHost as Host>⟧.disk_faults self.new n ≡ ⟦<MemHost as Host>⟧.disk_faults self.old n }
+        ensures cause { HasCause (⟦<MemHost as Host>⟧.faults self.old) (⟦<MemHost as Host>⟧.faults self.new) result }
+        ensures planned { IsPlanned (host_plan self.old) → IsErr result }
+        ensures counted { IsCounted (host_plan self.old) (host_plan self.new) }
+    {
         if self.calls.next_fails() {
             return Err(Failed);
         }

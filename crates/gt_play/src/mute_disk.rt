@@ -1,6 +1,6 @@
 use gt_disk::{Disk, DiskError, Failed, FileId, MemDisk};
 
-/// A disk in memory that tells nothing and whose clock stands still, as those of a folder do.
+/// A disk in memory that tells nothing but its clock, as a folder does.
 #[derive(Drop)]
 pub struct MuteDisk {
     pub disk: MemDisk,
@@ -10,18 +10,18 @@ pub struct MuteDisk {
 
 impl Disk for MuteDisk {
     ghost use Rattle.std.specs.Prelude.{false, refl};
-    ghost use Rattle.gt_play.specs.Untold.{untold};
+    ghost use Rattle.gt_disk.specs.Untold.{untold};
 
     ghost tells = { false };
 
-    ghost view = { λ _. untold };
+    ghost view = { λ mute. untold (⟦<MemDisk as Disk>⟧.view mute.disk).clock };
 
     ghost fault_count = { λ mute. ⟦<MemDisk as Disk>⟧.fault_count mute.disk };
 
     ghost shows = { λ _ _. λ _. refl };
 
     fn tick(&self) -> u64 {
-        0
+        self.disk.tick()
     }
 
     fn faults(&self) -> u64 {

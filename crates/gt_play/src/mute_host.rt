@@ -30,7 +30,7 @@ impl MuteHost {
 impl Host for MuteHost {
     type D = MuteDisk;
 
-    ghost use Rattle.gt_play.specs.Untold.{untold};
+    ghost use Rattle.gt_disk.specs.Untold.{untold};
 
     ghost faults = { λ mute. ⟦<MemHost as Host>⟧.faults mute.host };
 
@@ -38,7 +38,7 @@ impl Host for MuteHost {
 
     ghost disk_faults = { λ mute n. ⟦<MemHost as Host>⟧.disk_faults mute.host n };
 
-    ghost disk_view = { λ _ _. untold };
+    ghost disk_view = { λ mute n. untold (⟦<MemHost as Host>⟧.disk_view mute.host n).clock };
 
     fn take(&mut self, number: u8) -> Result<MuteDisk, Failed> {
         match self.host.take(number) {

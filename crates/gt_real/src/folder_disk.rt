@@ -1,6 +1,6 @@
 ghost use Rattle.std.specs.Prelude.{◌≡◌, ◌≤◌, ◌<◌, ◌↔◌, IfOk, IfSome, OnOk, IsOk, IsErr, length, true, false};
 ghost use Rattle.gt_disk.specs.Files.{IsPast};
-ghost use Rattle.gt_real.specs.Untold.{untold};
+ghost use Rattle.gt_disk.specs.Untold.{untold};
 
 use crate::counting::{counted, counted_change};
 use crate::filling::fill;
@@ -273,6 +273,7 @@ impl<R: Files<File = File> + Eprint + AllocGlobal + Clone + Drop> FolderDisk<R> 
 
 impl<R: Files<File = File> + Eprint + AllocGlobal + Clone + Drop> Disk for FolderDisk<R> {
     ghost use Rattle.std.specs.Prelude.{false, refl};
+
     ghost tells = { false };
 
     ghost view = { λ disk. untold disk.changes };

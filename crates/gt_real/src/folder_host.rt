@@ -1,4 +1,5 @@
 ghost use Rattle.std.specs.Prelude.{◌≡◌, ℕ, false, IfOk};
+ghost use Rattle.gt_disk.specs.Untold.{untold};
 
 use crate::counting::count_fault;
 use crate::folder_disk::FolderDisk;
@@ -34,8 +35,6 @@ impl<R: Files<File = File> + Eprint + AllocGlobal + Clone + Drop> FolderHost<R> 
         }
     }
 
-    ghost use Rattle.gt_real.specs.Untold.{untold};
-
     // Opens the folder of a disk, and makes it and the folder of the disks where they are absent.
     fn opened(&self, number: u8, place: Place) -> Result<FolderDisk<R>, Failed>
         ensures count { IfOk result (λ disk. ⟦<FolderDisk<R> as Disk>⟧.fault_count disk ≡ place.faults) }
@@ -48,7 +47,12 @@ impl<R: Files<File = File> + Eprint + AllocGlobal + Clone + Drop> FolderHost<R> 
         tell(&self.rt, path, &named);
         let shared: Result<R, _> = self.rt.clone();
         match (made, named, shared) {
-            (Ok(()), Ok(path), Ok(rt)) => FolderDisk::open_counted(rt, path, place.faults, place.changes),
+            (Ok(()), Ok(path), Ok(rt)) => FolderDisk::open_counted(
+                rt,
+                path,
+                place.faults,
+                place.changes,
+            ),
             _ => Err(Failed),
         }
     }
@@ -58,7 +62,6 @@ impl<R: Files<File = File> + Eprint + AllocGlobal + Clone + Drop> Host for Folde
     type D = FolderDisk<R>;
 
     ghost use Rattle.gt_real.specs.Places.{is_out_at, faults_at, clock_at};
-    ghost use Rattle.gt_real.specs.Untold.{untold};
 
     ghost faults = { λ host. host.faults };
 
