@@ -1,0 +1,5 @@
+pub mod Spelling
+pub mod Recovery
+pub mod Ledger
+pub mod Histories
+pub mod Loading
