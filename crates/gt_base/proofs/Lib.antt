@@ -6,3 +6,4 @@ pub mod Steady
 pub mod Images
 pub mod Moves
 pub mod Good
+pub mod Placed

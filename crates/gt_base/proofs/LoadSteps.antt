@@ -14,7 +14,7 @@ use Rattle.gt_table.specs.Table.{Tables}
 use Rattle.gt_disk.specs.declared.file_id.FileId.{FileId}
 use Rattle.gt_log.specs.declared.mount_cause.MountCause.TheVariants.{DeviceFault, Damaged, Memory}
 use Rattle.gt_base.specs.Loading.{Loads, Reads, in_file}
-use Rattle.gt_base.specs.Recovery.{Damage, entry_in, and_more, read_log, recover, prepend}
+use Rattle.gt_base.specs.Recovery.{Damage, entry_in, and_more, read_log, recover_log, prepend}
 
 abbrev made : List Entry → Content
 made log = after_all nothing log
@@ -75,13 +75,13 @@ here_now v w log number r q is = subst (λ (files : Files). Reads (in_file (entr
 
 -- ---- the limit
 
-past_limit : (limits : Limits) (files : Files) (b : Bool) → nat_lt limits.positions (content_length (files gate_file)) ≡ b → recover limits files ≡ cond b (Err (gate_file, limits.positions)) (read_log files nothing 1 (content_length (files gate_file)))
+past_limit : (limits : Limits) (files : Files) (b : Bool) → nat_lt limits.positions (content_length (files gate_file)) ≡ b → recover_log limits files ≡ cond b (Err (gate_file, limits.positions)) (read_log files nothing 1 (content_length (files gate_file)))
 past_limit limits files b is = ap (λ (t : Bool). cond t (Err (gate_file, limits.positions)) (read_log files nothing 1 (content_length (files gate_file)))) is
 
-pub too_long : (limits : Limits) (files : Files) (len : ℕ) → len ≡ content_length (files gate_file) → limits.positions < len → recover limits files ≡ Err (gate_file, limits.positions)
+pub too_long : (limits : Limits) (files : Files) (len : ℕ) → len ≡ content_length (files gate_file) → limits.positions < len → recover_log limits files ≡ Err (gate_file, limits.positions)
 too_long limits files len is lt = past_limit limits files true (grind (arith, nat_tests))
 
-pub loads_within : (limits : Limits) (files : Files) (len : ℕ) (result : Result Tables MountCause) → len ≡ content_length (files gate_file) → len ≤ limits.positions → Loads (read_log files nothing 1 len) result → Loads (recover limits files) result
+pub loads_within : (limits : Limits) (files : Files) (len : ℕ) (result : Result Tables MountCause) → len ≡ content_length (files gate_file) → len ≤ limits.positions → Loads (read_log files nothing 1 len) result → Loads (recover_log limits files) result
 loads_within limits files len result is le loads =
-    let whole : read_log files nothing 1 len ≡ recover limits files = ap (read_log files nothing 1) is ∙ sym (past_limit limits files false (grind (arith, nat_tests))) in
+    let whole : read_log files nothing 1 len ≡ recover_log limits files = ap (read_log files nothing 1) is ∙ sym (past_limit limits files false (grind (arith, nat_tests))) in
     subst (λ (r : Result (List Entry) Damage). Loads r result) whole loads

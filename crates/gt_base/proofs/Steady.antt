@@ -13,22 +13,28 @@ use Rattle.gt_history.specs.Crash.{IsSteady}
 abbrev Counts : ℕ → FileState → Type 0
 Counts n s = (y : FileContent) → Leaves s y → (content_length y + 1 ≡ n) ⊎ (content_length y ≡ n)
 
-behind_length : (x : FileContent) (k : ℕ) → content_length (Some (unwrap_or x [] ++ replicate k 0)) ≡ content_length x + k
-behind_length x k = length-append (unwrap_or x []) (replicate k 0) ∙ ap (λ (n : ℕ). length (unwrap_or x []) + n) (length-replicate k 0)
+abbrev zeros : ℕ → List ℕ
+zeros k = replicate k 0
+
+zeros_length : (k : ℕ) → length (zeros k) ≡ k
+zeros_length k = length-replicate {A = ℕ} k 0
+
+behind_length : (x : FileContent) (k : ℕ) → content_length (Some (unwrap_or x [] ++ zeros k)) ≡ content_length x + k
+behind_length x k = length-append (unwrap_or x []) (zeros k) ∙ ap (λ (n : ℕ). length (unwrap_or x []) + n) (zeros_length k)
 
 counts_steady : (n : ℕ) (s : FileState) → Counts n s → IsSteady s
 counts_steady n (still x) counts = tt
 counts_steady n (grown x k) counts =
-    let least = counts (Some (unwrap_or x [] ++ replicate 0 0)) (inr (replicate 0 0, (omega (arith, length-replicate 0 0), refl))) in
-    let most = counts (Some (unwrap_or x [] ++ replicate k 0)) (inr (replicate k 0, (omega (arith, length-replicate k 0), refl))) in
+    let least = counts (Some (unwrap_or x [] ++ zeros 0)) (inr (zeros 0, omega (arith, zeros_length 0), refl)) in
+    let most = counts (Some (unwrap_or x [] ++ zeros k)) (inr (zeros k, omega (arith, zeros_length k), refl)) in
     let short = behind_length x 0 in
     let long = behind_length x k in
     ⊎_elim
     (λ a. ⊎_elim (λ b. omega (arith, a, b, short, long)) (λ b. omega (arith, a, b, short, long)) most)
     (λ a. ⊎_elim (λ b. omega (arith, a, b, short, long)) (λ b. omega (arith, a, b, short, long)) most) least
 counts_steady n loose counts =
-    let one = counts (Some (replicate (n + 1) 0)) tt in
-    absurd (⊎_elim (λ a. omega (arith, a, length-replicate (n + 1) 0)) (λ a. omega (arith, a, length-replicate (n + 1) 0)) one)
+    let one = counts (Some (zeros (n + 1))) tt in
+    absurd (⊎_elim (λ a. omega (arith, a, zeros_length (n + 1))) (λ a. omega (arith, a, zeros_length (n + 1))) one)
 
 pub stands_steady : (first : ℕ) (entries : List (List ℕ)) (states : States) → Stands first entries states → IsSteady (states gate_file)
 stands_steady first entries states s = subst IsSteady (sym s.gate_still) tt
@@ -40,16 +46,10 @@ pub adding_steady : (first : ℕ) (entries : List (List ℕ)) (last : List ℕ) 
 adding_steady first entries last before states a = ⊎_elim (λ s. stands_steady first entries states s) (λ d. doubts_steady first entries last states d) a.log
 
 turn_not_gate : turn_file ≢ gate_file
-turn_not_gate is = by (ap (λ (f : FileId). f.kind) is)
-  where
-    by : 2 ≡ 1 → ⊥
-    by e = omega (arith, e)
+turn_not_gate is = let kinds : turn_file.kind ≡ gate_file.kind = ap (λ (f : FileId). f.kind) is in omega (arith, kinds)
 
 turn_not_entry : (n : ℕ) → turn_file ≢ entry_file n
-turn_not_entry n is = by (ap (λ (f : FileId). f.kind) is)
-  where
-    by : 2 ≡ 4 → ⊥
-    by e = omega (arith, e)
+turn_not_entry n is = let kinds : turn_file.kind ≡ (entry_file n).kind = ap (λ (f : FileId). f.kind) is in omega (arith, kinds)
 
 -- what leaves other files than the gate and one entry's leaves turn
 pub turn_kept : (n : ℕ) (before states : States) → ((g : FileId) → g ≢ gate_file → g ≢ entry_file n → states g ≡ before g) → IsSteady (before turn_file) → IsSteady (states turn_file)

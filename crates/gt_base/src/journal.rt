@@ -1,4 +1,4 @@
-ghost use Rattle.std.specs.Prelude.{◌≡◌, ◌⊎◌, ◌≤◌, ◌<◌, ◌+◌, ◌++◌, ◌∷◌, [], length, IsTrue, IfOk, IfErr, OnOk, OnErr, is_some, None, Err};
+ghost use Rattle.std.specs.Prelude.{◌≡◌, ◌⊎◌, ◌≤◌, ◌<◌, ◌+◌, ◌++◌, ◌∷◌, [], length, List, true, IsTrue, IfOk, IfErr, OnOk, OnErr, is_some, None, Err};
 ghost use Rattle.std.specs.Option.{ForSome};
 ghost use Rattle.std.proofs.Props.{props};
 ghost use Rattle.gt_disk.specs.Files as files;
@@ -10,13 +10,15 @@ ghost use Rattle.gt_log.specs.declared.mount_cause.MountCause.{MountCause as Cau
 ghost use Rattle.gt_model.specs.declared.limits.Limits.{Limits as Most};
 ghost use Rattle.gt_model.specs.Contents.{nothing, after_all, fits};
 ghost use Rattle.gt_entry.specs.Fits.{HasSpelling};
-ghost use Rattle.gt_sound.specs.Sound.{AreSound};
+ghost use Rattle.gt_model.specs.Machine.{Pin, SettledEntry, opening, unapplied, with_entry, with_pins};
+ghost use Rattle.gt_sound.specs.Sound.{IsSoundState};
 ghost use Rattle.gt_table.specs.Built.{IsBuilt};
 ghost use Rattle.gt_table.specs.Table.{HasRoomFor};
 ghost use Rattle.gt_table.proofs.Rooms.{room_for};
-ghost use Rattle.gt_base.specs.Ledger.{Settled, Stored, Moves, Settles, doubt_after};
+ghost use Rattle.gt_base.specs.Ledger.{Stored, state_of, doubt_after};
+ghost use Rattle.gt_base.specs.Histories.{IsGood, Moves, Settling};
 ghost use Rattle.gt_base.specs.Loading.{Opens, HasCause, HasAddCause};
-ghost use Rattle.gt_base.specs.Recovery.{recover, IsGood};
+ghost use Rattle.gt_base.specs.Recovery.{recover};
 
 use crate::loading::load;
 use crate::spelling::add_entry;
@@ -72,7 +74,7 @@ impl Journal {
         // A disk that may be handed in may be handed in again at each moment, and has what is opened.
         ensures good { IsTrue D.tells → IsGood limits.now (now (D.view disk.old)) → Since (IsGood limits.now) (D.view disk.old) (D.view disk.new) }
         ensures good_end { IsTrue D.tells → IsGood limits.now (now (D.view disk.old)) → IsGood limits.now (now (D.view disk.new)) }
-        ensures stored { IsTrue D.tells → IsGood limits.now (now (D.view disk.old)) → IfOk result (λ j. Stored limits.now j (now (D.view disk.new)) × AreSound j.log) }
+        ensures stored { IsTrue D.tells → IsGood limits.now (now (D.view disk.old)) → IfOk result (λ j. Stored limits.now (opening (unapplied j.log)) (now (D.view disk.new)) × IsSoundState (opening (unapplied j.log))) }
     {
         let Ok(log) = Log::mount(disk) else {
             return Err(MountCause::DeviceFault);
@@ -96,14 +98,16 @@ impl Journal {
 
     /// Finds out whether the entry in doubt is in the log. It takes no memory. Where nothing is in doubt the disk isn't asked.
     pub fn settle<D: Disk>(&mut self, disk: &mut D) -> Result<(), Failed>
-        ensures settles { OnOk result (Settled self.old self.new.log) }
+        // For whatever is live, the machine's state is settled.
+        ensures settles { OnOk result ((pins : List Pin) → SettledEntry true (state_of self.old pins) (state_of self.new pins)) }
+        ensures in_doubt { OnErr result (IsTrue (is_some self.old.doubt)) }
         ensures settled { OnOk result (self.new.doubt ≡ None) }
         ensures same { OnErr result (self.new ≡ self.old) }
         ensures idle { self.old.doubt ≡ None → disk.new ≡ disk.old }
         ensures cause { files.HasCause (D.fault_count disk.old) (D.fault_count disk.new) result }
         ensures later { (D.view disk.old).clock ≤ (D.view disk.new).clock }
         ensures counted { D.call_count disk.new ≤ D.call_count disk.old + 2 }
-        ensures moves { IsTrue D.tells → (limits : Most) → Settles limits self.old self.new (D.view disk.old) (D.view disk.new) }
+        ensures moves { IsTrue D.tells → (limits : Most) (before after : List Pin) → Settling limits (state_of self.old before) (state_of self.new after) (D.view disk.old) (D.view disk.new) }
     {
         match self.doubt.take() {
             None => Ok(()),
@@ -112,7 +116,10 @@ impl Journal {
                     self.table.add(entry);
                     Ok(())
                 }
-                Ok(false) => Ok(()),
+                Ok(false) => {
+                    drop(entry);
+                    Ok(())
+                }
                 Err(failed) => {
                     self.doubt = Some(entry);
                     Err(failed)
@@ -141,7 +148,9 @@ impl Journal {
         ensures cause { HasAddCause (D.fault_count disk.old) (D.fault_count disk.new) result }
         ensures later { (D.view disk.old).clock ≤ (D.view disk.new).clock }
         ensures counted { D.call_count disk.new ≤ D.call_count disk.old + 4 }
-        ensures moves { IsTrue D.tells → Moves limits.now self.old self.new (D.view disk.old) (D.view disk.new) }
+        // For whatever is live, the machine's state has the entry in its log.
+        ensures added { OnOk result ((before after : List Pin) → state_of self.new after ≡ with_pins (with_entry (state_of self.old before) entry) after) }
+        ensures moves { IsTrue D.tells → (before after : List Pin) → Moves limits.now (state_of self.old before) (state_of self.new after) (D.view disk.old) (D.view disk.new) }
     {
         if let Err(_) = self.table.prepare(alloc, &entry) {
             return Err(LogError::Memory);
@@ -151,12 +160,18 @@ impl Journal {
                 self.table.add(entry);
                 Ok(())
             }
-            Err(LogError::Untouched) => Err(LogError::Untouched),
+            Err(LogError::Untouched) => {
+                drop(entry);
+                Err(LogError::Untouched)
+            }
             Err(LogError::Unsure) => {
                 self.doubt = Some(entry);
                 Err(LogError::Unsure)
             }
-            Err(LogError::Memory) => Err(LogError::Memory),
+            Err(LogError::Memory) => {
+                drop(entry);
+                Err(LogError::Memory)
+            }
         }
     }
 }

@@ -1,8 +1,13 @@
 // Laws of the definitions alone. Each is the contract of a function that does nothing.
-ghost use Rattle.std.specs.Prelude.{None};
+ghost use Rattle.std.specs.Prelude.{◌≡◌, ◌<◌, ◌^◌, ℕ, List, Some, None, length};
 ghost use Rattle.gt_disk.specs.Files.{Files, States, IsImage, still};
 ghost use Rattle.gt_model.specs.declared.limits.Limits.{Limits};
-ghost use Rattle.gt_base.specs.Recovery.{IsGood};
+ghost use Rattle.gt_model.specs.Contents.{nothing, at, found};
+ghost use Rattle.gt_objset.specs.declared.place.Place.{Place};
+ghost use Rattle.gt_places.specs.Reading.{piece};
+ghost use Rattle.gt_table.specs.Table.{place_at};
+ghost use Rattle.gt_base.specs.Ledger.{Ledger, StoredBy};
+ghost use Rattle.gt_base.specs.Histories.{IsGood};
 
 /// What a stop leaves of a disk that may be handed in may be handed in itself.
 pub fn stops_leave_good_disks()
@@ -12,4 +17,11 @@ pub fn stops_leave_good_disks()
 /// A disk without files may be handed in.
 pub fn empty_disks_are_good()
     ensures { (limits : Limits) → IsGood limits (λ file. still None) }
+{}
+
+/// Whatever a stop leaves of files that have a log holds, at the place of each object that is seen at a position, the record
+/// that is found there.
+pub fn placed_records_are_held()
+    ensures { (limits : Limits) (l : Ledger) (states : States) (image : Files) (position : ℕ) (path name whole : List ℕ) (place : Place) → length l.log < 2 ^ 64 → StoredBy limits l states → IsImage states image
+        → place_at l.log position path name ≡ Some place → found (at 0 nothing l.log position) path name ≡ Some whole → piece (image place.file) place ≡ whole }
 {}

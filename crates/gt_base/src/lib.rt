@@ -8,4 +8,4 @@ mod loading;
 mod spelling;
 
 pub use journal::Journal;
-pub use laws::{empty_disks_are_good, stops_leave_good_disks};
+pub use laws::{empty_disks_are_good, placed_records_are_held, stops_leave_good_disks};

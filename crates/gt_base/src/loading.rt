@@ -6,7 +6,7 @@ ghost use Rattle.gt_log.specs.declared.mount_cause.MountCause.{MountCause};
 ghost use Rattle.gt_model.specs.Contents.{nothing, after_all, fits};
 ghost use Rattle.gt_entry.specs.Answers as answers;
 ghost use Rattle.gt_base.specs.Loading.{HasCause, Loads, Reads, in_file};
-ghost use Rattle.gt_base.specs.Recovery.{recover, read_log, entry_in};
+ghost use Rattle.gt_base.specs.Recovery.{recover_log, read_log, entry_in};
 ghost use Rattle.gt_table.specs.Built.{is_built, IsBuilt};
 
 use crate::spelling::decode;
@@ -29,7 +29,7 @@ pub(crate) fn load<D: Disk>(
     ensures cause { HasCause (D.fault_count disk.old) (D.fault_count disk.new) result }
     ensures gate { limits.now.positions < log.now.len → result ≡ Err (MountCause.Damaged gate_file limits.now.positions) }
     ensures count { IfOk result (λ table. log.now.len ≡ length table.log) }
-    ensures loads { IsTrue D.tells → log.now.len ≡ content_length ((D.view disk.old).reads gate_file) → Loads (recover limits.now (D.view disk.old).reads) result }
+    ensures loads { IsTrue D.tells → log.now.len ≡ content_length ((D.view disk.old).reads gate_file) → Loads (recover_log limits.now (D.view disk.old).reads) result }
 {
     let count = log.len();
     if count > limits.positions {

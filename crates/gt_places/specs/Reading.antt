@@ -1,5 +1,5 @@
 -- A record that is read at its place.
-use Rattle.std.specs.Prelude.{◌≡◌, ℕ, ◌≤◌, List, [], take, drop, None, Result, Ok, Err}
+use Rattle.std.specs.Prelude.{◌≡◌, ◌≢◌, ℕ, ◌≤◌, List, [], take, drop, None, Result, Ok, Err}
 use Rattle.std.specs.Option.{unwrap_or}
 use Rattle.sha1.specs.Sha1.{sha1}
 use Rattle.gt_disk.specs.Files.{Content, Rose}
@@ -24,7 +24,8 @@ Fetches held name (Err Damaged) = IsRecordOf name held → ⊥
 Fetches held name (Err Failed) = Unit {0}
 Fetches held name (Err Memory) = Unit {0}
 
--- A failing disk is blamed only where its count of faults rose.
+-- A failing disk is blamed where its count of faults rose, and only there: no fault hides behind another answer.
 pub record ReadCause (before after : ℕ) (result : Result (List ℕ) ReadError) : Type 0 where
   pub later : before ≤ after
   pub failed : result ≡ Err Failed → Rose before after
+  pub others : result ≢ Err Failed → after ≡ before

@@ -1,4 +1,4 @@
-use Rattle.std.proofs.Common.{◌≡◌, ◌+◌, ◌++◌, [], ◌∷◌, List, length, Ok, Err, length-append, ap, arith, sym, ◌∙◌}
+use Rattle.std.proofs.Common.{◌≡◌, ◌+◌, ◌++◌, [], ◌∷◌, List, length, Ok, Err, length-append, ap, arith, ◌∙◌}
 use Rattle.gt_disk.specs.Kinds.{entry_file}
 use Rattle.gt_model.specs.declared.entry.Entry.{Entry}
 use Rattle.gt_base.proofs.LoadSteps.{load_more, load_unread, read_ok, here_now, quiet_join}
