@@ -1,8 +1,10 @@
 -- The live transactions behind a map, and the least number that isn't live.
-use Rattle.std.proofs.Common.{◌≡◌, ℕ, ◌+◌, nat_eq, zero, suc, Bool, true, false, cond, ◌||◌, List, [], ◌∷◌, map, filter, find, Some, None, refl, ap, ◌∙◌, arith}
+use Rattle.std.proofs.Common.{◌≡◌, ℕ, ◌+◌, nat_eq, zero, suc, Bool, true, false, cond, ◌||◌, ◌&&◌, List, [], ◌∷◌, map, filter, find, Some, None, refl, ap, ◌∙◌, arith}
 use Rattle.std.specs.List.{list_any}
 use Rattle.std.specs.Option.{option_map}
-use Rattle.gt_model.specs.Machine.{Pin, is_live, free_from}
+use Rattle.gt_model.specs.Machine.{Pin, is_live, is_live_as, is_transaction, free_from}
+use Rattle.gt_pins.specs.declared.live.LivePin.{LivePin}
+use Rattle.gt_pins.specs.Live.{pin_of}
 
 module _ {A B : Type 0} (f : A → B) (p : B → Bool) where
   pub list_any-map : (xs : List A) → list_any p (map f xs) ≡ list_any (λ x. p (f x)) xs
@@ -46,3 +48,12 @@ live_found (p ∷ ps) number live none = by (nat_eq p.number number) live none (
     by : (b : Bool) → (b || is_live ps number) ≡ true → cond b (Some p) (find (λ (q : Pin). nat_eq q.number number) ps) ≡ None → (is_live ps number ≡ true → find (λ (q : Pin). nat_eq q.number number) ps ≡ None → ⊥) → ⊥
     by true live none more = absurd (cc (none))
     by false live none more = more live none
+
+-- each live pin is a transaction's
+pub all_transactions : (pins : List LivePin) (number : ℕ) → is_live_as is_transaction (map pin_of pins) number ≡ is_live (map pin_of pins) number
+all_transactions [] number = refl
+all_transactions (p ∷ ps) number = by (nat_eq p.number number) (all_transactions ps number)
+  where
+    by : (b : Bool) → is_live_as is_transaction (map pin_of ps) number ≡ is_live (map pin_of ps) number → ((b && true) || is_live_as is_transaction (map pin_of ps) number) ≡ (b || is_live (map pin_of ps) number)
+    by true rest = refl
+    by false rest = rest

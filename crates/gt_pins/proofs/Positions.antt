@@ -1,6 +1,7 @@
 -- What live transactions read.
 use Rattle.std.proofs.Common.{◌≡◌, ℕ, ◌≤◌, Bool, true, false, not, cond, nat_eq, find, List, [], ◌∷◌, ◌++◌, Some, subst}
-use Rattle.gt_model.specs.Machine.{Pin, ReadBefore, released}
+use Rattle.gt_pins.specs.Live.{ReadBefore}
+use Rattle.gt_model.specs.Machine.{Pin, released}
 
 -- what is left of the live transactions reads what they read
 pub reads_released : (n : ℕ) (pins : List Pin) (number : ℕ) → ReadBefore n pins → ReadBefore n (released pins number)

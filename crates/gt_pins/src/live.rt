@@ -1,6 +1,6 @@
-ghost use Rattle.std.specs.Prelude.{◌≡◌, ◌↔◌, ◌≤◌, ◌<◌, ◌++◌, ◌∷◌, [], length, nat_eq, find, true, false, Some, IsErr, IfOk, OnErr};
-ghost use Rattle.gt_model.specs.Machine.{is_live, free_number, released};
-ghost use Rattle.gt_pins.specs.Live.{pin_of, reading};
+ghost use Rattle.std.specs.Prelude.{◌≡◌, ◌↔◌, ◌≤◌, ◌<◌, ◌++◌, ◌∷◌, [], ℕ, length, nat_eq, find, true, false, Some, IsErr, IfOk, OnErr};
+ghost use Rattle.gt_model.specs.Machine.{is_live, is_live_as, is_transaction, free_number, released, reading};
+ghost use Rattle.gt_pins.specs.Live.{pin_of};
 
 use crate::{Pin, PinsFull, free_numbers_are_free};
 use gt_list::NoMemory;
@@ -103,6 +103,11 @@ impl Live {
     {
         self.drop_number(pin.number);
     }
+
+    /// A law, which does nothing: what is live here is a transaction, and no job.
+    pub fn are_transactions(&self)
+        ensures { (number : ℕ) → is_live_as is_transaction self.now number ≡ is_live self.now number }
+    {}
 
     fn has(&self, number: u8) -> bool
         ensures { result ≡ is_live self.now number }

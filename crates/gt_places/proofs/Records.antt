@@ -1,5 +1,5 @@
 -- The records that a write adds stand where they are placed.
-use Rattle.std.proofs.Common.{◌≡◌, ℕ, ◌+◌, Bool, true, false, cond, List, [], ◌∷◌, ◌++◌, length, take, drop, Option, Some, refl, sym, ◌∙◌, ap, subst, arith, length-append, append_assoc, slice_get, slice_range}
+use Rattle.std.proofs.Common.{◌≡◌, ℕ, ◌+◌, Bool, true, false, cond, List, [], ◌∷◌, ◌++◌, length, take, drop, Option, Some, None, refl, sym, ◌∙◌, ap, subst, arith, length-append, append_assoc, slice_get, slice_range}
 use Rattle.std.proofs.lemmas.List.{drop_at, take_at}
 use Rattle.std.specs.List.{AllByRecursion, flat_map}
 use Rattle.std.specs.Option.{unwrap_or}
@@ -9,6 +9,7 @@ use Rattle.std.specs.Cmp.Lexicographic.{nat_list_cmp_total}
 use Rattle.std.specs.FinMap as map
 use Rattle.std.specs.FinMap.{get-insert}
 use Rattle.gt_bytes.proofs.StandingLaws.{range_is}
+use Rattle.gt_object.specs.Whole.{why_not}
 use Rattle.gt_model.specs.declared.added.Added.{Added}
 use Rattle.gt_model.specs.declared.entry.Entry.{Entry}
 use Rattle.gt_model.specs.Contents.{Names, key_cmp, with_added}
@@ -20,9 +21,9 @@ use Rattle.gt_objset.specs.Places.{placed, last_put}
 use Rattle.gt_places.specs.Standing.{StandsAt}
 use Rattle.gt_places.proofs.Cases.{AreGood}
 
--- the record stands at the place, with its length there
+-- the record stands at the place, with its length there, and is a good one
 abbrev pub IsGood : List Entry → List ℕ → Place → Type 0
-IsGood log whole place = StandsAt log place whole × (place.len ≡ length whole)
+IsGood log whole place = StandsAt log place whole × (place.len ≡ length whole) × (why_not whole ≡ None)
 
 -- what is between a front and a rest
 range_between : (bytes front part rest : List ℕ) (at : ℕ) → at ≡ length front → bytes ≡ front ++ (part ++ rest) → slice_range bytes at (at + length part) ≡ part
@@ -55,6 +56,7 @@ module _ (log : List Entry) (index number : ℕ) (e : Entry) (there : slice_get 
           stands = range_between (spelling e) (front ++ head) a.whole rest (begin + 24) ahead parts;
         },
         refl,
+        typed.whole,
       )
 
   item_length : (a : Added) → IsAdded a → length (item a) ≡ 24 + length a.whole
