@@ -1,24 +1,71 @@
 -- What a call of a partition was.
-use Rattle.std.specs.Prelude.{◌≡◌, ℕ, ◌≤◌, Bool, false, IsTrue, List, Result}
+use Rattle.std.specs.Prelude.{◌≡◌, ◌⊎◌, ℕ, ◌≤◌, ◌+◌, Bool, true, false, IsTrue, List, Option, Some, None, Result, Ok, Err}
 use Rattle.gt_disk.specs.Files.{View, Rose}
 use Rattle.gt_model.specs.declared.done.Done.{Done}
+use Rattle.gt_model.specs.declared.done.Done.TheVariants.{Object}
+use Rattle.gt_model.specs.declared.entry.Entry.{Entry}
 use Rattle.gt_model.specs.declared.event.Event.{Event}
+use Rattle.gt_model.specs.declared.event.Event.TheVariants.{Create, Delete, Cat, Commit}
+use Rattle.gt_model.specs.declared.limits.Limits.{Limits}
 use Rattle.gt_model.specs.declared.refusal.Refusal.{Refusal}
 use Rattle.gt_model.specs.declared.who.Who.{Who}
-use Rattle.gt_model.specs.Histories.{Happening, event, kept, Happens}
-use Rattle.gt_model.specs.Machine.{State, Step, is_faulty, reads_object}
-use Rattle.gt_part.specs.Shown.{Shown, HasRun, Continues, OneEvent, Records, Counts, turn_of}
+use Rattle.gt_model.specs.Histories.{Happening, kept, last_state}
+use Rattle.gt_model.specs.Machine.{State, Step, StepOnAny, is_faulty}
+use Rattle.gt_part.specs.Shown.{Shown, Stands, HasRun, Continues, OneEvent, Records, Counts}
 
--- An event was asked and answered. The machine makes this step, of whose answer the record is kept; what is answered is the machine's answer too, but for an object that a disk gave which doesn't tell.
-pub record Called {D : Type 0} (tells : Bool) (view : D → View) (fault_count : D → ℕ) (who : Who) (e : Event) (answer : Result Done Refusal) (old new : Shown D) : Type 0 where
+-- the events that read an object
+abbrev pub reads_object : Event → Bool
+reads_object (Cat pin name) = true
+reads_object event = false
+
+-- What is answered is this; or both are objects, of which a disk that doesn't tell may have given another one.
+abbrev pub IsLike : Result Done Refusal → Result Done Refusal → Type 0
+IsLike answer told = (answer ≡ told) ⊎ ((given held : List ℕ) × (answer ≡ Ok (Object given)) × (told ≡ Ok (Object held)))
+
+-- From a state the machine makes a step, over any disk, of whose answer the same record is kept; what is answered is the machine's answer, but for an object that a disk gave which doesn't tell.
+pub record Acted (limits : Limits) (s : State) (e : Event) (answer : Result Done Refusal) (NowStands : State → Type 0) : Type 0 where
+  pub after : State
+  pub told : Result Done Refusal
+  pub step : StepOnAny limits s e told after
+  pub same : kept s e answer ≡ kept s e told
+  pub like : IsLike answer told
+  pub stands : NowStands after
+
+-- Where an event reads no object, the machine's step is with what is answered.
+pub record Stepped (limits : Limits) (s : State) (e : Event) (answer : Result Done Refusal) (NowStands : State → Type 0) : Type 0 where
+  pub after : State
+  pub step : Step limits s e answer after
+  pub stands : NowStands after
+
+-- A failing disk is blamed where its count of faults rose, and only there: no fault hides behind another answer.
+pub record CallCause (before after : ℕ) (answer : Result Done Refusal) : Type 0 where
+  pub later : before ≤ after
+  pub fault : IsTrue (is_faulty answer) → Rose before after
+  pub sure : is_faulty answer ≡ false → after ≡ before
+
+-- how many calls of the disk find out whether an entry in doubt is in the log
+abbrev pub settling_calls : Option Entry → ℕ
+settling_calls None = 0
+settling_calls (Some e) = 2
+
+-- how many calls of the disk an event makes at most where nothing is in doubt: four for an entry, one for an object
+abbrev pub own_calls : Event → ℕ
+own_calls (Create path pool) = 4
+own_calls (Delete path) = 4
+own_calls (Commit pin refs records) = 4
+own_calls (Cat pin name) = 1
+own_calls event = 0
+
+-- An event was asked and answered.
+pub record Called {D : Type 0} (tells : Bool) (view : D → View) (fault_count call_count : D → ℕ) (who : Who) (e : Event) (answer : Result Done Refusal) (old new : Shown D) : Type 0 where
   pub number : new.number ≡ old.number
   pub limits : new.limits ≡ old.limits
-  pub happens : Happens old.limits old.state (event (turn_of who e (kept old.state e answer) (view new.disk).clock) new.state)
-  pub step : reads_object e ≡ false → Step old.limits old.state e answer new.state
-  pub trail : Records who e (kept old.state e answer) (view new.disk).clock old new
-  pub later : fault_count old.disk ≤ fault_count new.disk
-  pub fault : IsTrue (is_faulty answer) → Rose (fault_count old.disk) (fault_count new.disk)
+  pub opening : new.opening ≡ old.opening
+  pub acts : (s : State) → Stands old s → Acted old.limits s e answer (Stands new)
+  pub exact : reads_object e ≡ false → (s : State) → Stands old s → Stepped old.limits s e answer (Stands new)
+  pub trail : (s : State) → Stands old s → Records who e (kept s e answer) (view new.disk).clock old new
+  pub cause : CallCause (fault_count old.disk) (fault_count new.disk) answer
+  pub counted : (s : State) → Stands old s → call_count new.disk ≤ call_count old.disk + settling_calls s.doubt + own_calls e
   pub faults : (first : ℕ) → Counts fault_count first old → Counts fault_count first new
-  pub told : IsTrue tells → (start : State) (begin : ℕ) (history : List Happening) → HasRun view start begin history old → Step old.limits old.state e answer new.state
   pub run : IsTrue tells → (start : State) (begin : ℕ) (history : List Happening) → HasRun view start begin history old
-      → Continues view start begin history (OneEvent who e (kept old.state e answer) (view new.disk).clock new.state) old new
+      → Continues view start begin history (OneEvent old.limits who e answer (view new.disk).clock (last_state start history)) old new

@@ -1,14 +1,7 @@
 pub mod Book
 pub mod Called
 pub mod Cat
-pub mod Checking
-pub mod Crash
 pub mod Ended
 pub mod Live
 pub mod Mounts
-pub mod Reads
-pub mod Recovery
 pub mod Shown
-pub mod Spelling
-pub mod Stored
-pub mod Writing

@@ -1,13 +1,9 @@
--- The live transactions of a partition.
+-- How the live transactions of a partition change.
 use Rattle.std.specs.Prelude.{◌≡◌, ℕ, Bool, true, false, List, Option, Some, None, Result, Ok, Err}
 use Rattle.gt_model.specs.declared.done.Done.{Done}
 use Rattle.gt_model.specs.declared.refusal.Refusal.{Refusal}
 use Rattle.gt_model.specs.declared.refusal.Refusal.TheVariants.{RepositoryGone, ReferenceConflict, DirectoryConflict, MissingObject, Unsure}
 use Rattle.gt_model.specs.Machine.{Pin, released}
-use Rattle.gt_part.specs.declared.live.LivePin.{LivePin}
-
-abbrev pub pin_of : LivePin → Pin
-pin_of p = record { number = p.number; position = p.position; path = p.path }
 
 -- A pin of this number is given with what was done, and none with a refusal.
 abbrev pub GivesPin : Result Done Refusal → Option ℕ → ℕ → Type 0

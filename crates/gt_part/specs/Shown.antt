@@ -1,43 +1,43 @@
 -- What clauses see of a partition.
-use Rattle.std.specs.Prelude.{◌≡◌, ◌⊎◌, ℕ, ◌≤◌, ◌+◌, ◌-◌, ◌^◌, if◌then◌else◌, List, [], ◌∷◌, ◌++◌, reverse, Result, Err}
+use Rattle.std.specs.Prelude.{◌≡◌, ◌⊎◌, ℕ, ◌≤◌, ◌+◌, ◌-◌, ◌^◌, if◌then◌else◌, List, [], ◌∷◌, ◌++◌, Result, Err}
 use Rattle.gt_disk.specs.Files.{View, now}
 use Rattle.gt_model.specs.declared.done.Done.{Done}
 use Rattle.gt_model.specs.declared.refusal.Refusal.{Refusal}
 use Rattle.gt_model.specs.declared.refusal.Refusal.TheVariants.{Memory}
 use Rattle.gt_model.specs.declared.event.Event.{Event}
 use Rattle.gt_model.specs.declared.limits.Limits.{Limits}
+use Rattle.gt_model.specs.declared.reference.RefAt.{RefAt}
 use Rattle.gt_model.specs.declared.turn.Turn.{Turn}
 use Rattle.gt_model.specs.declared.who.Who.{Who}
-use Rattle.gt_model.specs.Machine.{State, is_faulty}
-use Rattle.gt_model.specs.Histories.{Happening, event, opened, turns, last_state, last_tick}
-use Rattle.gt_part.specs.Crash.{Run, Holds}
-use Rattle.gt_part.specs.Recovery.{IsGood}
-use Rattle.gt_part.specs.Stored.{Stored}
+use Rattle.gt_model.specs.Machine.{State, Pin, Step, front, is_faulty}
+use Rattle.gt_model.specs.Histories.{Happening, event, opened, kept, last_state}
+use Rattle.gt_history.specs.Runs.{KeepsPast}
+use Rattle.gt_base.specs.Histories.{IsGood, Holds, IsHistory}
 
--- its number, its disk, its limits, the state of its machine, and the records of this opening
+-- its number, its disk, its limits, the state of its machine in memory, and the trail: the references at this opening, and the records of the events since
 pub record Shown (D : Type 0) : Type 0 where
   pub number : ℕ
   pub disk : D
   pub limits : Limits
-  pub state : State
+  pub memory : State
+  pub opening : List RefAt
   pub trail : List Turn
 
--- The files have the state, and the history leads to it from the start. The trail is the history's events since the last opening.
-pub record IsRun (limits : Limits) (start : State) (begin : ℕ) (history : List Happening) (view : View) (s : State) (trail : List Turn) : Type 0 where
-  pub stored : Stored limits s (now view)
-  pub run : Run limits start begin view.at history
-  pub events : turns history ≡ reverse trail
-  pub leads : last_state start history ≡ s
-  pub clock : last_tick begin history ≡ view.clock
+-- The partition's memory stands for this state of the machine.
+abbrev pub Stands : {D : Type 0} → Shown D → State → Type 0
+Stands p s = p.memory ≡ s
 
--- The partition has this history: it ends in the partition's state, now.
+-- what is live
+abbrev pub pins_of : {D : Type 0} → Shown D → List Pin
+pins_of p = p.memory.pins
+
+-- the position of its last entry
+abbrev pub front_of : {D : Type 0} → Shown D → ℕ
+front_of p = front p.memory
+
+-- The partition has this history, whose last state its memory stands for, and the files have that state now.
 abbrev pub HasRun : {D : Type 0} → (D → View) → State → ℕ → List Happening → Shown D → Type 0
-HasRun view start begin history p = IsRun p.limits start begin history (view p.disk) p.state p.trail
-
--- What was told of the past stands.
-pub record KeepsPast (old new : View) : Type 0 where
-  pub clock : old.clock ≤ new.clock
-  pub at : (m : ℕ) → m ≤ old.clock → new.at m ≡ old.at m
+HasRun view start begin history p = Stands p (last_state start history) × IsHistory p.limits start begin history (view p.disk) p.trail
 
 -- The history goes on by this, and holds on the disk, which may be handed in again.
 pub record Continues {D : Type 0} (view : D → View) (start : State) (begin : ℕ) (history : List Happening) (IsThis : List Happening → Type 0) (old new : Shown D) : Type 0 where
@@ -52,9 +52,11 @@ pub record Continues {D : Type 0} (view : D → View) (start : State) (begin : �
 abbrev pub turn_of : Who → Event → Result Done Refusal → ℕ → Turn
 turn_of who e answer tick = record { who = who; event = e; answer = answer; tick = tick }
 
--- one event, or none where memory was wanted
-abbrev pub OneEvent : Who → Event → Result Done Refusal → ℕ → State → List Happening → Type 0
-OneEvent who e answer tick s later = (later ≡ event (turn_of who e answer tick) s ∷ []) ⊎ ((answer ≡ Err Memory) × (later ≡ []))
+-- The machine makes a step with this answer, and the event has happened; of a want of memory there may be no record, and then nothing has changed.
+pub record OneEvent (limits : Limits) (who : Who) (e : Event) (answer : Result Done Refusal) (tick : ℕ) (s : State) (later : List Happening) : Type 0 where
+  pub after : State
+  pub step : Step limits s e answer after
+  pub happened : (later ≡ event (turn_of who e (kept s e answer) tick) after ∷ []) ⊎ ((answer ≡ Err Memory) × (later ≡ []) × (after ≡ s))
 
 abbrev pub OneOpening : ℕ → State → List Happening → Type 0
 OneOpening tick s later = later ≡ opened tick s ∷ []

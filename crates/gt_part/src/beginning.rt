@@ -1,20 +1,19 @@
-ghost use Rattle.std.specs.Prelude.{◌≡◌, ◌≤◌, ◌+◌, length, false, IsTrue, None};
-ghost use Rattle.gt_disk.specs.Files.{Rose};
+ghost use Rattle.std.specs.Prelude.{◌≡◌, ◌≤◌, ◌<◌, ◌+◌, length, false, IsTrue, None};
 ghost use Rattle.gt_model.specs.declared.event.Event.{Event};
 ghost use Rattle.gt_model.specs.Machine.{Step, Acts, is_faulty, free_number};
 ghost use Rattle.gt_part.specs.Book.{state_of};
+ghost use Rattle.gt_part.specs.declared.ended.Ended.{Ended as End};
+ghost use Rattle.gt_part.specs.Called.{CallCause, settling_calls};
 ghost use Rattle.gt_part.specs.Ended.{answer_of};
 ghost use Rattle.gt_part.specs.Live.{GivesPin};
-ghost use Rattle.gt_part.specs.Stored.{Moves};
+ghost use Rattle.gt_base.specs.Histories.{Moves};
 
-use crate::act::settle;
 use crate::book::Book;
 use crate::ended::Ended;
-use crate::live::LivePin;
-use crate::pin::Pin;
 use gt_disk::{Disk, Failed};
 use gt_model::Limits;
 use gt_name::RepoPath;
+use gt_pins::Pin;
 
 /// Settles what is in doubt, and then begins a transaction at the front.
 pub(crate) fn begin<D: Disk>(
@@ -27,11 +26,11 @@ pub(crate) fn begin<D: Disk>(
     ensures step { Step limits.now (state_of book.old) (Event.Begin path.now seen) (answer_of result.0) (state_of book.new) }
     ensures one { length book.new.live ≤ length book.old.live + 1 }
     ensures gives { GivesPin (answer_of result.0) result.1 (free_number book.old.live) }
-    ensures fault { IsTrue (is_faulty (answer_of result.0)) → Rose (D.fault_count disk.old) (D.fault_count disk.new) }
-    ensures later { D.fault_count disk.old ≤ D.fault_count disk.new }
+    ensures cause { CallCause (D.fault_count disk.old) (D.fault_count disk.new) (answer_of result.0) }
+    ensures counted { D.call_count disk.new ≤ D.call_count disk.old + settling_calls book.old.journal.doubt }
     ensures moves { IsTrue D.tells → Moves limits.now (state_of book.old) (state_of book.new) (D.view disk.old) (D.view disk.new) }
 {
-    if let Err(Failed) = settle(book, disk) {
+    if let Err(Failed) = book.journal.settle(disk) {
         return (Ended::DeviceFault, None);
     }
     begin_settled(limits, book, path, seen)
@@ -44,35 +43,28 @@ fn begin_settled(
     path: &RepoPath,
     seen: u64,
 ) -> (Ended, Option<Pin>)
-    requires { book.old.doubt ≡ None }
+    requires { book.old.journal.doubt ≡ None }
     ensures acts { Acts limits.now (state_of book.old) (Event.Begin path.now seen) (answer_of result.0) (state_of book.new) }
     ensures one { length book.new.live ≤ length book.old.live + 1 }
     ensures gives { GivesPin (answer_of result.0) result.1 (free_number book.old.live) }
-    ensures log { book.new.table.log ≡ book.old.table.log }
-    ensures doubt { book.new.doubt ≡ book.old.doubt }
+    ensures log { book.new.journal.log ≡ book.old.journal.log }
+    ensures doubt { book.new.journal.doubt ≡ book.old.journal.doubt }
+    ensures behind { length book.old.journal.log < seen → result.0 ≡ End.Behind seen (length book.old.journal.log) }
+    ensures full { seen ≤ length book.old.journal.log → limits.now.pins ≤ length book.old.live → result.0 ≡ End.PinsFull }
     ensures sure { is_faulty (answer_of result.0) ≡ false }
 {
-    let front = book.table.front();
+    let front = book.journal.table().front();
     if front < seen {
         return (Ended::Behind { seen, front }, None);
     }
-    if limits.pins as usize <= book.live.len() {
+    let Ok(number) = book.live.free_number(limits.pins) else {
         return (Ended::PinsFull, None);
-    }
-    if !book.table.has_repo(path) {
+    };
+    if !book.journal.table().has_repo(path) {
         return (Ended::NoRepository, None);
     }
-    let Ok(path) = path.clone() else {
-        return (Ended::Memory, None);
-    };
-    let number = book.live.free_number();
-    let pin = LivePin {
-        number,
-        position: front,
-        path,
-    };
-    match book.live.push(pin) {
-        Ok(()) => (Ended::Begun { position: front }, Some(Pin { number })),
+    match book.live.begin(number, front, path) {
+        Ok(pin) => (Ended::Begun { position: front }, Some(pin)),
         Err(_) => (Ended::Memory, None),
     }
 }

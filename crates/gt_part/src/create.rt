@@ -1,12 +1,13 @@
-ghost use Rattle.std.specs.Prelude.{◌≡◌, ◌≤◌, IsTrue, None};
-ghost use Rattle.gt_disk.specs.Files.{Rose};
+ghost use Rattle.std.specs.Prelude.{◌≡◌, ◌≤◌, ◌+◌, IsTrue, None, length, true, false};
 ghost use Rattle.gt_model.specs.declared.event.Event.{Event};
-ghost use Rattle.gt_model.specs.Machine.{Step, Acts, is_faulty};
+ghost use Rattle.gt_model.specs.Machine.{Step, Acts};
+ghost use Rattle.gt_model.specs.Contents.{nothing, after_all, has_repo};
 ghost use Rattle.gt_part.specs.Book.{state_of};
+ghost use Rattle.gt_part.specs.declared.ended.Ended.{Ended as End};
+ghost use Rattle.gt_part.specs.Called.{CallCause, settling_calls};
 ghost use Rattle.gt_part.specs.Ended.{answer_of};
-ghost use Rattle.gt_part.specs.Stored.{Moves};
+ghost use Rattle.gt_base.specs.Histories.{Moves};
 
-use crate::act::{add, settle};
 use crate::book::Book;
 use crate::ended::Ended;
 use gt_disk::{Disk, Failed};
@@ -26,11 +27,11 @@ pub(crate) fn create<D: Disk>(
 ) -> Ended
     ensures step { Step limits.now (state_of book.old) (Event.Create path.now pool) (answer_of result) (state_of book.new) }
     ensures pins { book.new.live ≡ book.old.live }
-    ensures fault { IsTrue (is_faulty (answer_of result)) → Rose (D.fault_count disk.old) (D.fault_count disk.new) }
-    ensures later { D.fault_count disk.old ≤ D.fault_count disk.new }
+    ensures cause { CallCause (D.fault_count disk.old) (D.fault_count disk.new) (answer_of result) }
+    ensures counted { D.call_count disk.new ≤ D.call_count disk.old + settling_calls book.old.journal.doubt + 4 }
     ensures moves { IsTrue D.tells → Moves limits.now (state_of book.old) (state_of book.new) (D.view disk.old) (D.view disk.new) }
 {
-    if let Err(Failed) = settle(book, disk) {
+    if let Err(Failed) = book.journal.settle(disk) {
         return Ended::DeviceFault;
     }
     create_settled(alloc, limits, book, disk, path, pool)
@@ -45,17 +46,19 @@ fn create_settled<D: Disk>(
     path: &RepoPath,
     pool: bool,
 ) -> Ended
-    requires { book.old.doubt ≡ None }
+    requires { book.old.journal.doubt ≡ None }
     ensures acts { Acts limits.now (state_of book.old) (Event.Create path.now pool) (answer_of result) (state_of book.new) }
     ensures pins { book.new.live ≡ book.old.live }
-    ensures fault { IsTrue (is_faulty (answer_of result)) → Rose (D.fault_count disk.old) (D.fault_count disk.new) }
-    ensures later { D.fault_count disk.old ≤ D.fault_count disk.new }
+    ensures cause { CallCause (D.fault_count disk.old) (D.fault_count disk.new) (answer_of result) }
+    ensures counted { D.call_count disk.new ≤ D.call_count disk.old + 4 }
+    ensures exists { has_repo (after_all nothing book.old.journal.log) path.now ≡ true → result ≡ End.RepositoryExists }
+    ensures full { has_repo (after_all nothing book.old.journal.log) path.now ≡ false → limits.now.positions ≤ length book.old.journal.log → result ≡ End.LogFull }
     ensures moves { IsTrue D.tells → Moves limits.now (state_of book.old) (state_of book.new) (D.view disk.old) (D.view disk.new) }
 {
-    if book.table.has_repo(path) {
+    if book.journal.table().has_repo(path) {
         return Ended::RepositoryExists;
     }
-    let front = book.table.front();
+    let front = book.journal.table().front();
     if limits.positions <= front {
         return Ended::LogFull;
     }
@@ -68,7 +71,7 @@ fn create_settled<D: Disk>(
         path,
         change: Change::Create { pool },
     };
-    match add(alloc, limits, book, disk, entry) {
+    match book.journal.add(alloc, limits, disk, entry) {
         Ok(()) => Ended::Created { position, pool },
         Err(LogError::Untouched) => Ended::DeviceFault,
         Err(LogError::Unsure) => Ended::Unsure { position },

@@ -1,15 +1,14 @@
-ghost use Rattle.std.specs.Prelude.{◌≡◌, ◌≤◌, IsTrue, IfOk, None, Err, true};
-ghost use Rattle.gt_disk.specs.Files.{Rose};
+ghost use Rattle.std.specs.Prelude.{◌≡◌, ◌≤◌, ◌+◌, IsTrue, IfOk, None, Err, true};
 ghost use Rattle.gt_model.specs.declared.event.Event.{Event};
 ghost use Rattle.gt_model.specs.declared.refusal.Refusal.{Refusal as Why};
 ghost use Rattle.gt_model.specs.Contents.{has_repo, least_member};
 ghost use Rattle.gt_model.specs.Histories.{kept};
 ghost use Rattle.gt_model.specs.Machine.{Step, Acts, content, is_faulty};
 ghost use Rattle.gt_part.specs.Book.{state_of};
+ghost use Rattle.gt_part.specs.Called.{CallCause, settling_calls};
 ghost use Rattle.gt_part.specs.Ended.{answer_of, IsKeptOf};
-ghost use Rattle.gt_part.specs.Stored.{Moves};
+ghost use Rattle.gt_base.specs.Histories.{Moves};
 
-use crate::act::{add, settle};
 use crate::book::Book;
 use crate::ended::Ended;
 use crate::reply::Reply;
@@ -31,11 +30,11 @@ pub(crate) fn delete<D: Disk>(
     ensures step { Step limits.now (state_of book.old) (Event.Delete path.now) result.answer (state_of book.new) }
     ensures kept { IsKeptOf (state_of book.old) (Event.Delete path.now) result }
     ensures pins { book.new.live ≡ book.old.live }
-    ensures fault { IsTrue (is_faulty result.answer) → Rose (D.fault_count disk.old) (D.fault_count disk.new) }
-    ensures later { D.fault_count disk.old ≤ D.fault_count disk.new }
+    ensures cause { CallCause (D.fault_count disk.old) (D.fault_count disk.new) result.answer }
+    ensures counted { D.call_count disk.new ≤ D.call_count disk.old + settling_calls book.old.journal.doubt + 4 }
     ensures moves { IsTrue D.tells → Moves limits.now (state_of book.old) (state_of book.new) (D.view disk.old) (D.view disk.new) }
 {
-    if let Err(Failed) = settle(book, disk) {
+    if let Err(Failed) = book.journal.settle(disk) {
         return Reply::of(Ended::DeviceFault);
     }
     delete_settled(alloc, limits, book, disk, path)
@@ -49,18 +48,18 @@ fn delete_settled<D: Disk>(
     disk: &mut D,
     path: &RepoPath,
 ) -> Reply
-    requires { book.old.doubt ≡ None }
+    requires { book.old.journal.doubt ≡ None }
     ensures acts { Acts limits.now (state_of book.old) (Event.Delete path.now) result.answer (state_of book.new) }
     ensures kept { IsKeptOf (state_of book.old) (Event.Delete path.now) result }
     ensures pins { book.new.live ≡ book.old.live }
-    ensures fault { IsTrue (is_faulty result.answer) → Rose (D.fault_count disk.old) (D.fault_count disk.new) }
-    ensures later { D.fault_count disk.old ≤ D.fault_count disk.new }
+    ensures cause { CallCause (D.fault_count disk.old) (D.fault_count disk.new) result.answer }
+    ensures counted { D.call_count disk.new ≤ D.call_count disk.old + 4 }
     ensures moves { IsTrue D.tells → Moves limits.now (state_of book.old) (state_of book.new) (D.view disk.old) (D.view disk.new) }
 {
-    if !book.table.has_repo(path) {
+    if !book.journal.table().has_repo(path) {
         return Reply::of(Ended::NoRepository);
     }
-    if let Some(member) = book.table.least_member(path) {
+    if let Some(member) = book.journal.table().least_member(path) {
         return match in_use(member) {
             Ok(reply) => reply,
             Err(NoMemory) => Reply::of(Ended::Memory),
@@ -74,10 +73,16 @@ fn in_use(member: &RepoPath) -> Result<Reply, NoMemory>
     ensures answer { IfOk result (λ reply. reply.answer ≡ Err (Why.PoolInUse member.now)) }
     ensures kept { IfOk result (λ reply. reply.kept ≡ Err (Why.PoolInUse member.now)) }
 {
-    match member.clone() {
-        Ok(member) => Reply::refused(Refusal::PoolInUse { member }),
-        Err(_) => Err(NoMemory),
-    }
+    let Ok(member) = member.clone() else {
+        return Err(NoMemory);
+    };
+    let Ok(kept) = member.clone() else {
+        return Err(NoMemory);
+    };
+    Ok(Reply::refused(
+        Refusal::PoolInUse { member },
+        Refusal::PoolInUse { member: kept },
+    ))
 }
 
 /// Deletes a repository that is there, and that none has as its pool.
@@ -88,17 +93,17 @@ fn delete_unused<D: Disk>(
     disk: &mut D,
     path: &RepoPath,
 ) -> Ended
-    requires settled { book.old.doubt ≡ None }
-    requires there { has_repo (content book.old.table.log) path.now ≡ true }
-    requires unused { least_member (content book.old.table.log) path.now ≡ None }
+    requires settled { book.old.journal.doubt ≡ None }
+    requires there { has_repo (content book.old.journal.log) path.now ≡ true }
+    requires unused { least_member (content book.old.journal.log) path.now ≡ None }
     ensures acts { Acts limits.now (state_of book.old) (Event.Delete path.now) (answer_of result) (state_of book.new) }
     ensures kept { kept (state_of book.old) (Event.Delete path.now) (answer_of result) ≡ answer_of result }
     ensures pins { book.new.live ≡ book.old.live }
-    ensures fault { IsTrue (is_faulty (answer_of result)) → Rose (D.fault_count disk.old) (D.fault_count disk.new) }
-    ensures later { D.fault_count disk.old ≤ D.fault_count disk.new }
+    ensures cause { CallCause (D.fault_count disk.old) (D.fault_count disk.new) (answer_of result) }
+    ensures counted { D.call_count disk.new ≤ D.call_count disk.old + 4 }
     ensures moves { IsTrue D.tells → Moves limits.now (state_of book.old) (state_of book.new) (D.view disk.old) (D.view disk.new) }
 {
-    let front = book.table.front();
+    let front = book.journal.table().front();
     if limits.positions <= front {
         return Ended::LogFull;
     }
@@ -111,7 +116,7 @@ fn delete_unused<D: Disk>(
         path,
         change: Change::Delete,
     };
-    match add(alloc, limits, book, disk, entry) {
+    match book.journal.add(alloc, limits, disk, entry) {
         Ok(()) => Ended::Deleted { position },
         Err(LogError::Untouched) => Ended::DeviceFault,
         Err(LogError::Unsure) => Ended::Unsure { position },

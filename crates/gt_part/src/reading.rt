@@ -6,10 +6,10 @@ ghost use Rattle.gt_part.specs.Ended.{answer_of, IsKeptOf};
 
 use crate::book::Book;
 use crate::ended::Ended;
-use crate::pin::Pin;
 use crate::reply::Reply;
 use gt_model::{Done, Limits};
 use gt_name::RefName;
+use gt_pins::Pin;
 use std::alloc::Global;
 
 /// What a reference names at the position of a transaction.
@@ -18,9 +18,9 @@ pub(crate) fn get_ref(limits: &Limits, book: &Book, pin: &Pin, name: &RefName) -
     ensures step { Step limits.now (state_of book.now) (Event.GetRef pin.now name.now) (answer_of result) (state_of book.now) }
     ensures sure { is_faulty (answer_of result) ≡ false }
 {
-    let live = book.live.get(pin.number);
+    let live = book.live.get(pin);
     Ended::Value {
-        value: book.table.value_at(live.position, &live.path, name),
+        value: book.journal.table().value_at(live.position, &live.path, name),
     }
 }
 
@@ -37,8 +37,8 @@ pub(crate) fn list_refs(
     ensures kept { IsKeptOf (state_of book.now) (Event.ListRefs pin.now prefix.now) result }
     ensures sure { is_faulty result.answer ≡ false }
 {
-    let live = book.live.get(pin.number);
-    match book.table.list_at(alloc, live.position, &live.path, prefix) {
+    let live = book.live.get(pin);
+    match book.journal.table().list_at(alloc, live.position, &live.path, prefix) {
         Ok(list) => Reply {
             answer: Ok(Done::Refs { list }),
             kept: Ended::Finished {

@@ -1,8 +1,7 @@
-ghost use Rattle.std.specs.Prelude.{◌≡◌, Err, Ok, IfOk};
+ghost use Rattle.std.specs.Prelude.{◌≡◌, Err};
 ghost use Rattle.gt_part.specs.Ended.{answer_of};
 
 use crate::ended::Ended;
-use gt_list::NoMemory;
 use gt_model::{Answer, Refusal};
 
 /// What an event is answered, and what its record keeps of that.
@@ -25,17 +24,14 @@ impl Reply {
         }
     }
 
-    /// A refusal, and a copy of it to keep.
-    pub(crate) fn refused(refusal: Refusal) -> Result<Reply, NoMemory>
-        ensures answer { IfOk result (λ reply. reply.answer ≡ Err refusal) }
-        ensures kept { IfOk result (λ reply. reply.kept ≡ Err refusal) }
+    /// A refusal, and the copy of it that is kept.
+    pub(crate) fn refused(answer: Refusal, kept: Refusal) -> Reply
+        ensures answer { result.answer ≡ Err answer }
+        ensures kept { result.kept ≡ Err kept }
     {
-        match refusal.clone() {
-            Ok(copy) => Ok(Reply {
-                answer: Err(refusal),
-                kept: Err(copy),
-            }),
-            Err(_) => Err(NoMemory),
+        Reply {
+            answer: Err(answer),
+            kept: Err(kept),
         }
     }
 }

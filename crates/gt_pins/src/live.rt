@@ -107,7 +107,9 @@ impl Live {
     /// A law, which does nothing: what is live here is a transaction, and no job.
     pub fn are_transactions(&self)
         ensures { (number : ℕ) → is_live_as is_transaction self.now number ≡ is_live self.now number }
-    {}
+    {
+        let _ = self.pins.len();
+    }
 
     fn has(&self, number: u8) -> bool
         ensures { result ≡ is_live self.now number }
