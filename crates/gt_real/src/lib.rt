@@ -1,5 +1,6 @@
-//! The real outside: folders as disks, standard input and standard output. They tell nothing of content: what the system
-//! does with a call is trusted, and tried by the rows of `edge_rows` and by checks behind the gate.
+//! The real outside: folders as disks, standard input and standard output. They tell nothing of content, but that an input is what
+//! the runtime's reader gives: what the system does with a call is trusted, and tried by the rows of `edge_rows` and by checks
+//! behind the gate.
 #![tactic(auto)]
 
 mod counting;

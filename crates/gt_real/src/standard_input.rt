@@ -6,8 +6,8 @@ use gt_disk::Failed;
 use gt_outside::Source;
 use std::io::Read;
 
-/// Standard input as a source. It tells nothing, and reads no more than it is asked for. An error is never the input's end. It is
-/// told on standard error.
+/// Standard input as a source. It tells what the runtime's reader tells, and reads no more than it is asked for. An error is never
+/// the input's end. It is told on standard error.
 #[derive(Drop)]
 pub struct StandardInput<R: Input + Eprint + Drop> {
     rt: R,
@@ -30,9 +30,7 @@ impl<R: Input + Eprint + Drop> StandardInput<R> {
 }
 
 impl<R: Input + Eprint + Drop> Source for StandardInput<R> {
-    ghost use Rattle.std.specs.Prelude.{None};
-
-    ghost left = { λ _. None };
+    ghost left = { λ source. R.Reader.remaining source.reader };
 
     ghost faults = { λ source. source.faults };
 

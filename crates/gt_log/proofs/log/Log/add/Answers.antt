@@ -17,6 +17,10 @@ returns-in-Err-Failed-append_synced-clause-after g c told first entries counts s
     let failed = rw c.in-Err-Failed-append_synced.field-0-is at c.in-Err-Failed-append_synced.ensures.doubt in
     doubted first entries c.args.bytes.now (c.self.inside.len + 1) (ap (λ (s : LogState). s.len + 1) c.self.view_is ∙ counts) _ _ _ stands (rw c.entry_file.ensures at (c.write_synced.ensures.run told)) (rw c.entry_file.ensures at (c.in-Ok.ensures.still told)) (c.append_synced.ensures.run told) (failed told refl)
 
+pub returns-in-Ok-append_synced-clause-after : goal.returns-in-Ok-append_synced-clause-after
+returns-in-Ok-append_synced-clause-after g c told first entries counts stands =
+    added first entries c.args.bytes.now (c.self.inside.len + 1) (ap (λ (s : LogState). s.len + 1) c.self.view_is ∙ counts) _ _ _ stands (rw c.entry_file.ensures at (c.write_synced.ensures.run told)) (rw c.entry_file.ensures at (c.in-Ok.ensures.still told)) (c.append_synced.ensures.run told) (c.in-Ok-append_synced.ensures.still told)
+
 pub returns-in-Ok-append_synced-clause-images : goal.returns-in-Ok-append_synced-clause-images
 returns-in-Ok-append_synced-clause-images g c told first entries counts stands =
     adding_images first entries c.args.bytes.now _ _ _ (adding first entries c.args.bytes.now (c.self.inside.len + 1) (ap (λ (s : LogState). s.len + 1) c.self.view_is ∙ counts) _ _ _ stands (rw c.entry_file.ensures at (c.write_synced.ensures.run told)) (rw c.entry_file.ensures at (c.in-Ok.ensures.still told)) (c.append_synced.ensures.run told))
