@@ -101,6 +101,7 @@ impl Journal {
         // For whatever is live, the machine's state is settled.
         ensures settles { OnOk result ((pins : List Pin) → SettledEntry true (state_of self.old pins) (state_of self.new pins)) }
         ensures in_doubt { OnErr result (IsTrue (is_some self.old.doubt)) }
+        ensures longer { length self.old.log ≤ length self.new.log }
         ensures settled { OnOk result (self.new.doubt ≡ None) }
         ensures same { OnErr result (self.new ≡ self.old) }
         ensures idle { self.old.doubt ≡ None → disk.new ≡ disk.old }
@@ -145,6 +146,7 @@ impl Journal {
         requires room { length self.old.log < limits.now.positions }
         ensures ok { OnOk result ((self.new.log ≡ self.old.log ++ entry ∷ []) × (self.new.doubt ≡ None)) }
         ensures err { IfErr result (λ e. (self.new.log ≡ self.old.log) × (self.new.doubt ≡ doubt_after e entry)) }
+        ensures longer { length self.old.log ≤ length self.new.log }
         ensures cause { HasAddCause (D.fault_count disk.old) (D.fault_count disk.new) result }
         ensures later { (D.view disk.old).clock ≤ (D.view disk.new).clock }
         ensures counted { D.call_count disk.new ≤ D.call_count disk.old + 4 }

@@ -15,9 +15,9 @@ use Rattle.gt_model.specs.declared.refusal.Refusal.TheVariants.{RepositoryGone, 
 use Rattle.gt_model.specs.declared.update.RefUpdate.{RefUpdate}
 use Rattle.gt_model.specs.Contents.{Content, and_then, has_repo, finds_old, with_refs}
 use Rattle.gt_model.specs.Verdicts.{Staged, Ready, verdict, failed, first_some, conflict, directory, missing_value, missing_dep, target, clash_in, refs_in, is_present, added_records, needed_names}
-use Rattle.gt_model.specs.Machine.{Pin, State, content, released, is_live, is_empty, settles, pin_of, is_full, refuses, answers, adds, committed, effect, MayStop, Ends, Acts, ActsSettled, Step, with_log, with_pins, next_entry, front}
+use Rattle.gt_model.specs.Machine.{Pin, State, content, released, is_live, is_empty, settles, pin_of, is_full, refuses, answers, adds, committed, effect, Ends, Fails, Acts, SettledEntry, Step, with_pins, next_entry, front}
 use Rattle.gt_part.specs.Live.{ends, Ended}
-use Rattle.gt_part.proofs.Pins.{released_gone}
+use Rattle.gt_pins.proofs.Numbers.{released_gone}
 
 -- ---- a check that fails ends the transaction
 
@@ -93,45 +93,64 @@ module _ (limits : Limits) (pin : ℕ) (refs : List RefUpdate) (records : List A
   abbrev staged : Staged
   staged = record { refs = refs; records = records }
 
-  stopped : (s new : State) (answer : Result Done Refusal) → MayStop (Commit pin refs records) answer → new ≡ s → LeavesBy answer pin s.pins new.pins
-  stopped s new answer (inl (certain, is)) same = stays answer pin s.pins new.pins (ap ends is) (ap (λ (s : State). s.pins) same)
-  stopped s new answer (inr (inl (settling, is))) same = stays answer pin s.pins new.pins (ap ends is) (ap (λ (s : State). s.pins) same)
-  stopped s new answer (inr (inr (reads, file, place, is))) same = absurd (cc (reads))
-
   pins_are : (s new : State) (pins : List Pin) → new ≡ with_pins s pins → new.pins ≡ pins
   pins_are s new pins is = ap (λ (s : State). s.pins) is
 
-  committed_ends : (s new : State) (answer : Result Done Refusal) (v : Result Ready Refusal) → verdict (content s.log) (pin_of s pin).path staged ≡ v → Ends (committed limits s pin staged v) s answer new → LeavesBy answer pin s.pins new.pins
+  committed_ends : (s new : State) (answer : Result Done Refusal) (v : Result Ready Refusal) → verdict (content s) (pin_of s pin).path staged ≡ v → Ends (committed limits s pin staged v) s answer new → LeavesBy answer pin s.pins new.pins
   committed_ends s new answer (Err refusal) is (said, same) =
-      gone answer pin s.pins new.pins (ap ends said ∙ verdict_ends (content s.log) (pin_of s pin).path staged refusal is) (pins_are s new (released s.pins pin) same)
+      gone answer pin s.pins new.pins (ap ends said ∙ verdict_ends (content s) (pin_of s pin).path staged refusal is) (pins_are s new (released s.pins pin) same)
   committed_ends s new answer (Ok ready) is done = by (is_full limits s) done
     where
       e : Entry
-      e = next_entry s (pin_of s pin).path (Write ready.refs ready.needed (added_records (content s.log) (pin_of s pin).path staged))
+      e = next_entry s (pin_of s pin).path (Write ready.refs ready.needed (added_records (content s) (pin_of s pin).path staged))
 
       by : (b : Bool) → Ends (cond b (refuses LogFull s.pins) (adds e (Committed (front s + 1)) (released s.pins pin))) s answer new → LeavesBy answer pin s.pins new.pins
       by true (said, same) = stays answer pin s.pins new.pins (ap ends said) (pins_are s new s.pins same)
       by false (inl (said, same)) = gone answer pin s.pins new.pins (ap ends said) (ap (λ (s : State). s.pins) same)
       by false (inr (said, same)) = gone answer pin s.pins new.pins (ap ends said) (ap (λ (s : State). s.pins) same)
 
+  committed_stays : (s new : State) (v : Result Ready Refusal) → Fails (Commit pin refs records) (committed limits s pin staged v) s new → new ≡ s
+  committed_stays s new (Err refusal) fails = absurd fails
+  committed_stays s new (Ok ready) fails = by (is_full limits s) fails
+    where
+      e : Entry
+      e = next_entry s (pin_of s pin).path (Write ready.refs ready.needed (added_records (content s) (pin_of s pin).path staged))
+
+      by : (b : Bool) → Fails (Commit pin refs records) (cond b (refuses LogFull s.pins) (adds e (Committed (front s + 1)) (released s.pins pin))) s new → new ≡ s
+      by true fails = absurd fails
+      by false is = is
+
   effect_ends : (s new : State) (answer : Result Done Refusal) → Ends (effect limits s (Commit pin refs records)) s answer new → LeavesBy answer pin s.pins new.pins
   effect_ends s new answer done = by (is_empty refs records) done
     where
-      by : (b : Bool) → Ends (cond b (answers (Finished (pin_of s pin).position) (released s.pins pin)) (committed limits s pin staged (verdict (content s.log) (pin_of s pin).path staged))) s answer new → LeavesBy answer pin s.pins new.pins
+      by : (b : Bool) → Ends (cond b (answers (Finished (pin_of s pin).position) (released s.pins pin)) (committed limits s pin staged (verdict (content s) (pin_of s pin).path staged))) s answer new → LeavesBy answer pin s.pins new.pins
       by true (said, same) = gone answer pin s.pins new.pins (ap ends said) (pins_are s new (released s.pins pin) same)
-      by false e = committed_ends s new answer (verdict (content s.log) (pin_of s pin).path staged) refl e
+      by false e = committed_ends s new answer (verdict (content s) (pin_of s pin).path staged) refl e
+
+  effect_stays : (s new : State) → Fails (Commit pin refs records) (effect limits s (Commit pin refs records)) s new → new ≡ s
+  effect_stays s new fails = by (is_empty refs records) fails
+    where
+      by : (b : Bool) → Fails (Commit pin refs records) (cond b (answers (Finished (pin_of s pin).position) (released s.pins pin)) (committed limits s pin staged (verdict (content s) (pin_of s pin).path staged))) s new → new ≡ s
+      by true (object, is) = is
+      by false f = committed_stays s new (verdict (content s) (pin_of s pin).path staged) f
 
   acts_ends : (s new : State) (answer : Result Done Refusal) → Acts limits s (Commit pin refs records) answer new → LeavesBy answer pin s.pins new.pins
   acts_ends s new answer (inl done) = effect_ends s new answer done
-  acts_ends s new answer (inr (may, same)) = stopped s new answer may same
+  acts_ends s new answer (inr (inl (said, fails))) = stays answer pin s.pins new.pins (ap ends said) (ap (λ (s : State). s.pins) (effect_stays s new fails))
+  acts_ends s new answer (inr (inr (said, same))) = stays answer pin s.pins new.pins (ap ends said) (ap (λ (s : State). s.pins) same)
 
-  settled_ends : (b : Bool) (s new : State) (answer : Result Done Refusal) → ActsSettled b limits s (Commit pin refs records) answer new → LeavesBy answer pin s.pins new.pins
-  settled_ends false s new answer acts = acts_ends s new answer acts
-  settled_ends true s new answer (log, settled, acts) = acts_ends (with_log s log) new answer acts
+  entry_pins : (b : Bool) (s new : State) → SettledEntry b s new → new.pins ≡ s.pins
+  entry_pins false s new is = ap (λ (s : State). s.pins) is
+  entry_pins true s new (inl is) = ap (λ (s : State). s.pins) is
+  entry_pins true s new (inr is) = ap (λ (s : State). s.pins) is
 
   pub commit_ends : (s new : State) (answer : Result Done Refusal) → Step limits s (Commit pin refs records) answer new → LeavesBy answer pin s.pins new.pins
-  commit_ends s new answer (inl acts) = settled_ends (settles (Commit pin refs records)) s new answer acts
-  commit_ends s new answer (inr (may, same)) = stopped s new answer may same
+  commit_ends s new answer (asked, inl (mid, (entry, one, two), acts)) =
+      let same : mid.pins ≡ s.pins = ap (λ (s : State). s.pins) two ∙ entry_pins (settles (Commit pin refs records)) s entry one in
+      subst (λ (pins : List Pin). LeavesBy answer pin pins new.pins) same (acts_ends mid new answer acts)
+  commit_ends s new answer (asked, inr (inl (said, inl (doubt, same)))) = stays answer pin s.pins new.pins (ap ends said) (ap (λ (s : State). s.pins) same)
+  commit_ends s new answer (asked, inr (inl (said, inr (never, one)))) = absurd (cc never)
+  commit_ends s new answer (asked, inr (inr (said, same))) = stays answer pin s.pins new.pins (ap ends said) (ap (λ (s : State). s.pins) same)
 
 -- ---- the pin
 

@@ -1,15 +1,6 @@
-pub mod Bytes
-pub mod Recovering
-pub mod Events
-pub mod Safe
+pub mod Stepping
 pub mod Histories
 pub mod Calling
-pub mod Pins
 pub mod Commits
-pub mod Typing
-pub mod Objects
-pub mod LoadSteps
-pub mod LiveLists
 pub mod Looking
-pub mod Doubts
-pub mod Writes
+pub mod Objects

@@ -1,92 +1,87 @@
 -- An object that was read at its place is the one that the content has.
-use Rattle.std.proofs.Common.{◌≡◌, inl, inr, ℕ, ◌+◌, ◌<◌, List, [], ◌∷◌, length, map, Option, Some, None, Result, Ok, Err, refl, sym, ◌∙◌, ap, subst}
-use Rattle.std.specs.Prelude.{◌^◌, slice_get}
-use Rattle.std.specs.Option.{option_map}
-use Rattle.std.proofs.lemmas.Option.{get_or_from_slice_get, slice_get-map, slice_get_within}
-use Rattle.gt_bytes.proofs.StandingLaws.{range_is}
-use Rattle.gt_disk.specs.Files.{Content as FileContent, Files, States, View, now, IsImage}
-use Rattle.gt_log.specs.Log.{KeepsEntries, entry_file}
-use Rattle.gt_log.proofs.Images.{image_still, keeps_front}
+use Rattle.std.proofs.Common.{◌≡◌, inl, inr, ℕ, ◌<◌, Bool, true, false, ◌&&◌, IsTrue, List, length, Option, Some, None, Result, Ok, Err, refl, sym, ◌∙◌, ap, subst}
+use Rattle.std.specs.Prelude.{◌^◌}
+use Rattle.gt_disk.specs.declared.file_id.FileId.{FileId}
+use Rattle.gt_disk.specs.Files.{View, now, IsImage}
 use Rattle.gt_model.specs.declared.done.Done.{Done}
 use Rattle.gt_model.specs.declared.done.Done.TheVariants.{Object}
-use Rattle.gt_model.specs.declared.entry.Entry.{Entry}
 use Rattle.gt_model.specs.declared.event.Event.TheVariants.{Cat}
 use Rattle.gt_model.specs.declared.limits.Limits.{Limits}
 use Rattle.gt_model.specs.declared.refusal.Refusal.{Refusal}
-use Rattle.gt_model.specs.Contents.{nothing, found}
+use Rattle.gt_model.specs.declared.refusal.Refusal.TheVariants.{Damaged}
+use Rattle.gt_model.specs.Contents.{found}
 use Rattle.gt_model.specs.Histories.{kept}
-use Rattle.gt_model.specs.Machine.{State, Step, MayStop, Ends, with_doubt, content_of, pin_of, object}
+use Rattle.gt_model.specs.Machine.{State, Pin, Step, StepOnAny, Ends, Acts, opening, unapplied, reads_object, content_of, pin_of, object}
+use Rattle.gt_sound.specs.Sound.{IsSoundState}
 use Rattle.gt_objset.specs.declared.place.Place.{Place}
-use Rattle.gt_places.specs.Standing.{StandsAt}
-use Rattle.gt_places.proofs.Logs.{seen_good}
+use Rattle.gt_places.specs.Reading.{piece, IsRecordOf}
 use Rattle.gt_table.specs.Table.{place_at}
-use Rattle.gt_part.specs.Cat.{piece, IsNamedSo, HeldSo, CatGives}
-use Rattle.gt_part.specs.Recovery.{IsKept}
-use Rattle.gt_part.specs.Spelling.{encode}
-use Rattle.gt_part.specs.Stored.{FilesHave, Stored}
-use Rattle.gt_part.proofs.Recovering.{kept_front}
-use Rattle.gt_part.proofs.Typing.{entries_typed}
+use Rattle.gt_base.specs.Ledger.{Ledger, StoredBy, state_of}
+use Rattle.gt_base.proofs.Placed.{IsHeld, placed_is}
+use Rattle.gt_part.specs.Cat.{IsNamedSo, HeldSo, CatGives}
 
--- ---- what a disk holds of a log
+module _ (limits : Limits) (l : Ledger) (pins : List Pin) (pin : ℕ) (name : List ℕ) (v : View) (stored : StoredBy limits l (now v)) (sound : IsSoundState (opening (unapplied l.log))) (shows : IsImage (now v) v.reads) (few : length l.log < 2 ^ 64) where
+  abbrev s : State
+  s = state_of l pins
 
-kept_log : (log : List Entry) (doubt : Option Entry) → IsKept (with_doubt log doubt) → IsKept log
-kept_log log None kept = kept
-kept_log log (Some e) kept = kept_front log (e ∷ []) kept
-
-entries_kept : (log : List Entry) (doubt : Option Entry) (states : States) → FilesHave log doubt states → KeepsEntries (map encode log) states
-entries_kept log None states files = files.each
-entries_kept log (Some e) states files = keeps_front (map encode log) (encode e) states files.each
-
--- each entry of the log is in its file
-entry_there : (log : List Entry) (states : States) (files : Files) (n : ℕ) (e : Entry) → KeepsEntries (map encode log) states → IsImage states files → slice_get log n ≡ Some e → files (entry_file (n + 1)) ≡ Some (encode e)
-entry_there log states files n e keeps shows is =
-    let here : slice_get (map encode log) n ≡ Some (encode e) = slice_get-map encode log n ∙ ap (option_map encode) is in
-    image_still states files (entry_file (n + 1)) _ shows (keeps n (slice_get_within (map encode log) n (encode e) here)) ∙ ap Some (get_or_from_slice_get (map encode log) n (encode e) [] here)
-
--- what stands at a place is held there
-piece_is : (log : List Entry) (states : States) (files : Files) (place : Place) (whole : List ℕ) → KeepsEntries (map encode log) states → IsImage states files → StandsAt log place whole → piece (files place.file) place ≡ whole
-piece_is log states files place whole keeps shows stands =
-    let there : files place.file ≡ Some (encode stands.entry) = ap files stands.file ∙ entry_there log states files stands.number stands.entry keeps shows stands.there in
-    ap (λ (file : FileContent). piece file place) there ∙ sym (range_is (encode stands.entry) place.at place.len) ∙ stands.stands
-
-module _ (limits : Limits) (s : State) (pin : ℕ) (name : List ℕ) (v : View) (stored : Stored limits s (now v)) (shows : IsImage (now v) v.reads) (few : length s.log < 2 ^ 64) where
   abbrev Steps : Result Done Refusal → Type 0
   Steps answer = Step limits s (Cat pin name) answer s
 
-  -- what is held at the place of an object is its record
-  held_is : (whole w : List ℕ) (place : Option Place) → place_at s.log (pin_of s pin).position (pin_of s pin).path name ≡ place → found (content_of s pin) (pin_of s pin).path name ≡ Some whole
-      → HeldSo place (λ place. w ≡ piece (v.reads place.file) place) → w ≡ whole
-  held_is whole w None is has never = absurd never
-  held_is whole w (Some place) is has held =
-      let legal = kept_log s.log s.doubt stored.legal in
-      let typed = entries_typed s.log nothing few legal.0 legal.1 in
-      let good = seen_good s.log (pin_of s pin).position legal.0 typed (pin_of s pin).path name whole place has is in
-      held ∙ piece_is s.log (now v) v.reads place whole (entries_kept s.log s.doubt (now v) stored.files) shows good.0
+  abbrev seen : Option (List ℕ)
+  seen = found (content_of s pin) (pin_of s pin).path name
 
-  -- an event that stops gives nothing
-  stops_not : {P : Type 0} (done : Done) → MayStop (Cat pin name) (Ok done) → P
-  stops_not done (inl (certain, is)) = absurd (cc (is))
-  stops_not done (inr (inl (settling, is))) = absurd (cc (is))
-  stops_not done (inr (inr (reads, file, place, is))) = absurd (cc (is))
+  abbrev place : Option Place
+  place = place_at l.log (pin_of s pin).position (pin_of s pin).path name
+
+  -- what is held at the place of an object is its record
+  held : (whole : List ℕ) (at : Place) → place ≡ Some at → seen ≡ Some whole → IsHeld v.reads at name whole
+  held whole at is has = placed_is limits l (now v) v.reads (pin_of s pin).position (pin_of s pin).path name whole at few stored sound shows is has
+
+  held_is : (whole w : List ℕ) (o : Option Place) → place ≡ o → seen ≡ Some whole → HeldSo o (λ at. w ≡ piece (v.reads at.file) at) → w ≡ whole
+  held_is whole w None is has never = absurd never
+  held_is whole w (Some at) is has there = there ∙ (held whole at is has).is
 
   -- What is done is that the record is given that the content has.
-  given_found : (done : Done) (o : Option (List ℕ)) → Ends (object o name s.pins) s (Ok done) s → (whole : List ℕ) × (o ≡ Some whole) × (done ≡ Object whole)
+  given_found : (done : Done) (o : Option (List ℕ)) → Ends (object o name pins) s (Ok done) s → (whole : List ℕ) × (o ≡ Some whole) × (done ≡ Object whole)
   given_found done None (said, same) = absurd (cc (said))
   given_found done (Some whole) (said, same) = (whole, refl, cc (said))
 
-  object_found : (done : Done) → Steps (Ok done) → (whole : List ℕ) × (found (content_of s pin) (pin_of s pin).path name ≡ Some whole) × (done ≡ Object whole)
-  object_found done (inl (inl ends)) = given_found done (found (content_of s pin) (pin_of s pin).path name) ends
-  object_found done (inl (inr (may, same))) = stops_not done may
-  object_found done (inr (may, same)) = stops_not done may
+  acts_found : (done : Done) → Acts limits s (Cat pin name) (Ok done) s → (whole : List ℕ) × (seen ≡ Some whole) × (done ≡ Object whole)
+  acts_found done (inl ends) = given_found done seen ends
+  acts_found done (inr (inl (said, fails))) = absurd (cc (said))
+  acts_found done (inr (inr (said, out))) = absurd (cc (said))
+
+  object_found : (done : Done) → Steps (Ok done) → (whole : List ℕ) × (seen ≡ Some whole) × (done ≡ Object whole)
+  object_found done (asked, inl (mid, (entry, one, two), acts)) = acts_found done (subst (λ (m : State). Acts limits m (Cat pin name) (Ok done) s) (two ∙ one) acts)
+  object_found done (asked, inr (inl (said, fails))) = absurd (cc (said))
+  object_found done (asked, inr (inr (said, out))) = absurd (cc (said))
+
+  -- over a disk that tells nothing is damaged
+  right : (a b : Bool) → (a && b) ≡ true → b ≡ true
+  right true b is = is
+  right false b is = absurd (cc is)
+
+  whole_there : (file : FileId) (at : ℕ) (o : Option (List ℕ)) → seen ≡ o → reads_object (object o name pins) ≡ true → CatGives s pin name v.reads (Err (Damaged file at)) → ⊥
+  whole_there file at None has reads gives = absurd (cc reads)
+  whole_there file at (Some whole) has reads gives = by place refl gives
+    where
+      by : (o : Option Place) → place ≡ o → HeldSo o (λ p. (file ≡ p.file) × (at ≡ p.at) × (IsRecordOf name (piece (v.reads p.file) p) → ⊥)) → ⊥
+      by None is never = never
+      by (Some p) is (one, two, not) = let h = held whole p is has in not (subst (IsRecordOf name) (sym h.is) h.of_name)
+
+  never_spoilt : (refusal : Refusal) (file : FileId) (at : ℕ) → ◌≡◌ {A = Result Done Refusal} (Err refusal) (Err (Damaged file at)) → IsTrue (reads_object (object seen name pins)) → CatGives s pin name v.reads (Err refusal) → ⊥
+  never_spoilt refusal file at is reads gives = whole_there file at seen refl reads (subst (CatGives s pin name v.reads) is gives)
 
   -- Over a disk that tells, the machine takes its step with what is answered.
-  pub cat_steps : (answer told : Result Done Refusal) → Steps told → kept s (Cat pin name) answer ≡ kept s (Cat pin name) told → IsNamedSo name answer → CatGives s pin name v.reads answer → Steps answer
-  cat_steps (Err refusal) (Err other) step same named gives = subst Steps (sym same) step
+  pub cat_steps : (answer told : Result Done Refusal) → StepOnAny limits s (Cat pin name) told s → kept s (Cat pin name) answer ≡ kept s (Cat pin name) told → IsNamedSo name answer → CatGives s pin name v.reads answer → Steps answer
+  cat_steps (Err refusal) (Err other) (inl step) same named gives = subst Steps (sym same) step
+  cat_steps (Err refusal) (Err other) (inr (asked, (file, at, said), is)) same named gives = absurd (never_spoilt refusal file at (same ∙ said) (right _ _ asked) gives)
   cat_steps (Err refusal) (Ok done) step same named gives = absurd (cc (same))
   cat_steps (Ok done) (Err other) step same named gives = absurd (cc (same))
-  cat_steps (Ok (Object w)) (Ok done) step same named gives =
+  cat_steps (Ok done) (Ok other) (inr (asked, (file, at, said), is)) same named gives = absurd (cc said)
+  cat_steps (Ok (Object w)) (Ok done) (inl step) same named gives =
       let f = object_found done step in
-      let is : w ≡ f.0 = held_is f.0 w (place_at s.log (pin_of s pin).position (pin_of s pin).path name) refl f.1 gives in
+      let is : w ≡ f.0 = held_is f.0 w place refl f.1 gives in
       let given : Ok done ≡ Ok (Object w) = ap (λ (d : Done). Ok d) f.2 ∙ ap (λ (x : List ℕ). Ok (Object x)) (sym is) in
       subst Steps given step
-  cat_steps (Ok other) (Ok done) step same named gives = absurd named
+  cat_steps (Ok other) (Ok done) (inl step) same named gives = absurd named

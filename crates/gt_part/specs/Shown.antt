@@ -12,28 +12,34 @@ use Rattle.gt_model.specs.declared.who.Who.{Who}
 use Rattle.gt_model.specs.Machine.{State, Pin, Step, front, is_faulty}
 use Rattle.gt_model.specs.Histories.{Happening, event, opened, kept, last_state}
 use Rattle.gt_history.specs.Runs.{KeepsPast}
+use Rattle.gt_base.specs.Ledger.{Ledger, state_of}
 use Rattle.gt_base.specs.Histories.{IsGood, Holds, IsHistory}
 
--- its number, its disk, its limits, the state of its machine in memory, and the trail: the references at this opening, and the records of the events since
+-- its number, its disk, its limits, its log in memory, what is live, and the trail: the references at this opening, and the records of the events since
 pub record Shown (D : Type 0) : Type 0 where
   pub number : ℕ
   pub disk : D
   pub limits : Limits
-  pub memory : State
+  pub ledger : Ledger
+  pub live : List Pin
   pub opening : List RefAt
   pub trail : List Turn
 
+-- the machine's state that the memory of a partition stands for
+abbrev pub memory : {D : Type 0} → Shown D → State
+memory p = state_of p.ledger p.live
+
 -- The partition's memory stands for this state of the machine.
 abbrev pub Stands : {D : Type 0} → Shown D → State → Type 0
-Stands p s = p.memory ≡ s
+Stands p s = memory p ≡ s
 
 -- what is live
 abbrev pub pins_of : {D : Type 0} → Shown D → List Pin
-pins_of p = p.memory.pins
+pins_of p = p.live
 
 -- the position of its last entry
 abbrev pub front_of : {D : Type 0} → Shown D → ℕ
-front_of p = front p.memory
+front_of p = front (memory p)
 
 -- The partition has this history, whose last state its memory stands for, and the files have that state now.
 abbrev pub HasRun : {D : Type 0} → (D → View) → State → ℕ → List Happening → Shown D → Type 0

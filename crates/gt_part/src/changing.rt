@@ -1,6 +1,7 @@
 ghost use Rattle.std.specs.Prelude.{◌≡◌};
 ghost use Rattle.gt_model.specs.declared.event.Event.{Event as Asked};
 ghost use Rattle.gt_part.specs.Called.{Called};
+ghost use Rattle.gt_part.specs.Shown.{pins_of};
 
 use crate::Partition;
 use crate::create::create;
@@ -16,8 +17,8 @@ impl<D: Disk + Drop> Partition<D> {
     /// Makes a repository, or a pool. `RepositoryExists` comes exactly where the content at the front has the path, and then
     /// `LogFull` exactly at the limit of positions; `DeviceFault` and `Unsure` only of a fault of the disk.
     pub fn create(&mut self, alloc: Global, who: Who, path: &RepoPath, pool: bool) -> Answer
-        ensures called { Called D.tells D.view D.fault_count who (Asked.Create path.now pool) result self.old self.new }
-        ensures pins { self.new.state.pins ≡ self.old.state.pins }
+        ensures called { Called D.tells D.view D.fault_count D.call_count who (Asked.Create path.now pool) result self.old self.new }
+        ensures pins { pins_of self.new ≡ pins_of self.old }
     {
         let Ok(path) = path.clone() else {
             return Err(Refusal::Memory);
@@ -26,8 +27,8 @@ impl<D: Disk + Drop> Partition<D> {
     }
 
     fn create_at(&mut self, alloc: Global, who: Who, path: RepoPath, pool: bool) -> Answer
-        ensures called { Called D.tells D.view D.fault_count who (Asked.Create path pool) result self.old self.new }
-        ensures pins { self.new.state.pins ≡ self.old.state.pins }
+        ensures called { Called D.tells D.view D.fault_count D.call_count who (Asked.Create path pool) result self.old self.new }
+        ensures pins { pins_of self.new ≡ pins_of self.old }
     {
         if let Err(_) = take_room(&mut self.trail, self.book.live.len(), 1) {
             return Err(Refusal::Memory);
@@ -54,8 +55,8 @@ impl<D: Disk + Drop> Partition<D> {
     /// exactly where a repository has it as its pool, with the least one, and then `LogFull` exactly at the limit of
     /// positions; `DeviceFault` and `Unsure` only of a fault of the disk.
     pub fn delete(&mut self, alloc: Global, who: Who, path: &RepoPath) -> Answer
-        ensures called { Called D.tells D.view D.fault_count who (Asked.Delete path.now) result self.old self.new }
-        ensures pins { self.new.state.pins ≡ self.old.state.pins }
+        ensures called { Called D.tells D.view D.fault_count D.call_count who (Asked.Delete path.now) result self.old self.new }
+        ensures pins { pins_of self.new ≡ pins_of self.old }
     {
         let Ok(path) = path.clone() else {
             return Err(Refusal::Memory);
@@ -64,8 +65,8 @@ impl<D: Disk + Drop> Partition<D> {
     }
 
     fn delete_at(&mut self, alloc: Global, who: Who, path: RepoPath) -> Answer
-        ensures called { Called D.tells D.view D.fault_count who (Asked.Delete path) result self.old self.new }
-        ensures pins { self.new.state.pins ≡ self.old.state.pins }
+        ensures called { Called D.tells D.view D.fault_count D.call_count who (Asked.Delete path) result self.old self.new }
+        ensures pins { pins_of self.new ≡ pins_of self.old }
     {
         if let Err(_) = take_room(&mut self.trail, self.book.live.len(), 1) {
             return Err(Refusal::Memory);

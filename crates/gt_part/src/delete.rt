@@ -1,9 +1,9 @@
 ghost use Rattle.std.specs.Prelude.{◌≡◌, ◌≤◌, ◌+◌, IsTrue, IfOk, None, Err, true};
 ghost use Rattle.gt_model.specs.declared.event.Event.{Event};
 ghost use Rattle.gt_model.specs.declared.refusal.Refusal.{Refusal as Why};
-ghost use Rattle.gt_model.specs.Contents.{has_repo, least_member};
+ghost use Rattle.gt_model.specs.Contents.{nothing, after_all, has_repo, least_member};
 ghost use Rattle.gt_model.specs.Histories.{kept};
-ghost use Rattle.gt_model.specs.Machine.{Step, Acts, content, is_faulty};
+ghost use Rattle.gt_model.specs.Machine.{Step, Acts};
 ghost use Rattle.gt_part.specs.Book.{state_of};
 ghost use Rattle.gt_part.specs.Called.{CallCause, settling_calls};
 ghost use Rattle.gt_part.specs.Ended.{answer_of, IsKeptOf};
@@ -94,8 +94,8 @@ fn delete_unused<D: Disk>(
     path: &RepoPath,
 ) -> Ended
     requires settled { book.old.journal.doubt ≡ None }
-    requires there { has_repo (content book.old.journal.log) path.now ≡ true }
-    requires unused { least_member (content book.old.journal.log) path.now ≡ None }
+    requires there { has_repo (after_all nothing book.old.journal.log) path.now ≡ true }
+    requires unused { least_member (after_all nothing book.old.journal.log) path.now ≡ None }
     ensures acts { Acts limits.now (state_of book.old) (Event.Delete path.now) (answer_of result) (state_of book.new) }
     ensures kept { kept (state_of book.old) (Event.Delete path.now) (answer_of result) ≡ answer_of result }
     ensures pins { book.new.live ≡ book.old.live }

@@ -2,20 +2,19 @@ ghost use Rattle.std.specs.Prelude.{◌≡◌, ◌≤◌, ◌++◌, ℕ, [], ◌
 ghost use Rattle.gt_disk.specs.Files.{Rose, now};
 ghost use Rattle.gt_disk.specs.Moments.{Since, Narrows};
 ghost use Rattle.gt_model.specs.Machine.{State, Settles, is_live};
-ghost use Rattle.gt_model.specs.Histories.{Happening};
-ghost use Rattle.gt_part.specs.Recovery.{recover, IsGood};
-ghost use Rattle.gt_part.specs.Crash.{Holds};
+ghost use Rattle.gt_model.specs.Histories.{Happening, last_state};
+ghost use Rattle.gt_base.specs.Recovery.{recover};
+ghost use Rattle.gt_base.specs.Histories.{IsGood, Holds};
 ghost use Rattle.gt_part.specs.Mounts.{Mounts, HasMountCause};
-ghost use Rattle.gt_part.specs.Shown.{Counts, HasRun, Continues, OneOpening};
+ghost use Rattle.gt_part.specs.Shown.{memory, Counts, HasRun, Continues, OneOpening, pins_of, front_of};
 
 use crate::book::Book;
-use crate::live::Live;
-use crate::loading::load;
-use crate::pin::Pin;
+use gt_base::Journal;
 use gt_disk::Disk;
 use gt_list::{ListOf, Roomy};
-use gt_log::{Log, MountCause, MountError};
+use gt_log::MountError;
 use gt_model::{Limits, Trail};
+use gt_pins::{Live, Pin};
 use std::alloc::Global;
 use std::marker::Model;
 
@@ -32,7 +31,6 @@ pub struct Partition<D: Disk + Drop> {
 
 impl<D: Disk + Drop> Model for Partition<D> {
     ghost use Rattle.gt_part.specs.Shown.{Shown};
-    ghost use Rattle.gt_part.specs.Book.{state_of};
 
     ghost Value = { Shown D };
 
@@ -41,7 +39,7 @@ impl<D: Disk + Drop> Model for Partition<D> {
     // Each live transaction has room for the record of its end.
     ghost invariant = { λ p. (1 ≤ p.number) × (p.number ≤ 8) × (length p.book.live ≤ p.trail.turns.1) };
 
-    ghost view = { λ p. record { number = p.number; disk = p.disk; limits = p.limits; state = state_of p.book; trail = p.trail.turns.0 } };
+    ghost view = { λ p. record { number = p.number; disk = p.disk; limits = p.limits; ledger = p.book.journal; live = p.book.live; opening = p.trail.opening; trail = p.trail.turns.0 } };
 }
 
 impl<D: Disk + Drop> Partition<D> {
@@ -75,27 +73,16 @@ impl<D: Disk + Drop> Partition<D> {
         ensures good_in_vain { IsTrue D.tells → IsGood limits (now (D.view disk)) → IfErr result (λ e. IsGood limits (now (D.view e.disk))) }
 
         // Where whatever a stop may leave recovers, a run begins here.
-        ensures run { IsTrue D.tells → IsGood limits (now (D.view disk)) → IfOk result (λ p. HasRun D.view p.state (D.view p.disk).clock [] p) }
+        ensures run { IsTrue D.tells → IsGood limits (now (D.view disk)) → IfOk result (λ p. HasRun D.view (memory p) (D.view p.disk).clock [] p) }
     {
         let mut disk = disk;
-        let log = match Log::mount(&mut disk) {
-            Ok(log) => log,
-            Err(_) => {
-                return Err(MountError {
-                    cause: MountCause::DeviceFault,
-                    disk,
-                });
-            }
-        };
-        match load(alloc, &limits, &log, &mut disk) {
-            Ok(table) => Ok(Partition {
+        match Journal::open(alloc, &limits, &mut disk) {
+            Ok(journal) => Ok(Partition {
                 number,
                 disk,
                 limits,
                 book: Book {
-                    log,
-                    table,
-                    doubt: None,
+                    journal,
                     live: Live::new(alloc),
                 },
                 trail: Trail {
@@ -125,9 +112,9 @@ impl<D: Disk + Drop> Partition<D> {
         ensures moments_in_vain { IsTrue D.tells → IfErr result (λ e. Narrows (D.view self.disk) (D.view e.disk)) }
         ensures reads_in_vain { IsTrue D.tells → IfErr result (λ e. (D.view e.disk).reads ≡ (D.view self.disk).reads) }
         ensures empty { IfOk result (λ p. p.trail ≡ []) }
-        ensures settles { IsTrue D.tells → (start : State) (begin : ℕ) (history : List Happening) → HasRun D.view start begin history self → IfOk result (λ p. Settles self.state p.state) }
+        ensures settles { IsTrue D.tells → (start : State) (begin : ℕ) (history : List Happening) → HasRun D.view start begin history self → IfOk result (λ p. Settles (last_state start history) (memory p)) }
         ensures run { IsTrue D.tells → (start : State) (begin : ℕ) (history : List Happening) → HasRun D.view start begin history self
-            → IfOk result (λ p. Continues D.view start begin history (OneOpening (D.view p.disk).clock p.state) self p) }
+            → IfOk result (λ p. Continues D.view start begin history (OneOpening (D.view p.disk).clock (memory p)) self p) }
     {
         let number = self.number;
         let limits = self.limits;
@@ -136,22 +123,23 @@ impl<D: Disk + Drop> Partition<D> {
 
     /// The position of the last entry of the log, 0 where there is none. An entry in doubt doesn't count.
     pub fn front(&self) -> u64
-        ensures { result ≡ length self.now.state.log }
+        ensures { result ≡ front_of self.now }
     {
-        self.book.table.front()
+        self.book.journal.table().front()
     }
 
-    /// The records of this opening.
+    /// The references at this opening, and the records of the events since.
     pub fn trail(&self) -> &Trail
-        ensures { result.now.turns.0 ≡ self.now.trail }
+        ensures turns { result.now.turns.0 ≡ self.now.trail }
+        ensures opening { result.now.opening ≡ self.now.opening }
     {
         &self.trail
     }
 
     /// Whether a pin's transaction is live.
     pub fn holds(&self, pin: &Pin) -> bool
-        ensures { result ≡ is_live self.now.state.pins pin.now }
+        ensures { result ≡ is_live (pins_of self.now) pin.now }
     {
-        self.book.live.is_live(pin.number)
+        self.book.live.is_live(pin)
     }
 }

@@ -5,6 +5,7 @@ ghost use Rattle.gt_model.specs.Machine.{is_live, free_number, released};
 ghost use Rattle.gt_part.specs.Called.{Called};
 ghost use Rattle.gt_part.specs.Cat.{IsNamedSo, CatGives};
 ghost use Rattle.gt_part.specs.Live.{GivesPin, EndsBy};
+ghost use Rattle.gt_part.specs.Shown.{memory, pins_of};
 
 use crate::aborting::abort;
 use crate::beginning::begin;
@@ -14,11 +15,12 @@ use crate::ended::Ended;
 use crate::noting::{note, take_room};
 use crate::reading::{get_ref, list_refs};
 use crate::reply::Reply;
-use crate::{Partition, Pin};
+use crate::Partition;
 use gt_disk::Disk;
 use gt_list::ListOf;
 use gt_model::{AddedRecords, Answer, Event, RefUpdates, Refusal, Who, Word};
 use gt_name::{Name, RefName, RepoPath};
+use gt_pins::Pin;
 use gt_stage::{Stage, law_stage};
 use std::alloc::Global;
 
@@ -35,8 +37,8 @@ impl<D: Disk + Drop> Partition<D> {
         pass: &mut Option<Pin>,
     ) -> Answer
         requires { pass.old ≡ None }
-        ensures called { Called D.tells D.view D.fault_count who (Asked.Begin path.now seen) result self.old self.new }
-        ensures gives { GivesPin result pass.new (free_number self.old.state.pins) }
+        ensures called { Called D.tells D.view D.fault_count D.call_count who (Asked.Begin path.now seen) result self.old self.new }
+        ensures gives { GivesPin result pass.new (free_number (pins_of self.old)) }
     {
         let _ = alloc;
         let Ok(path) = path.clone() else {
@@ -48,8 +50,8 @@ impl<D: Disk + Drop> Partition<D> {
     }
 
     fn begin_at(&mut self, who: Who, path: RepoPath, seen: u64) -> (Answer, Option<Pin>)
-        ensures called { Called D.tells D.view D.fault_count who (Asked.Begin path seen) result.0 self.old self.new }
-        ensures gives { GivesPin result.0 result.1 (free_number self.old.state.pins) }
+        ensures called { Called D.tells D.view D.fault_count D.call_count who (Asked.Begin path seen) result.0 self.old self.new }
+        ensures gives { GivesPin result.0 result.1 (free_number (pins_of self.old)) }
     {
         if let Err(_) = take_room(&mut self.trail, self.book.live.len(), 2) {
             return (Err(Refusal::Memory), None);
@@ -68,9 +70,9 @@ impl<D: Disk + Drop> Partition<D> {
 
     /// What a reference names at the position of a transaction, or none.
     pub fn get_ref(&mut self, alloc: Global, who: Who, pin: &Pin, name: &RefName) -> Answer
-        requires { is_live self.old.state.pins pin.now ≡ true }
-        ensures called { Called D.tells D.view D.fault_count who (Asked.GetRef pin.now name.now) result self.old self.new }
-        ensures pins { self.new.state.pins ≡ self.old.state.pins }
+        requires { is_live (pins_of self.old) pin.now ≡ true }
+        ensures called { Called D.tells D.view D.fault_count D.call_count who (Asked.GetRef pin.now name.now) result self.old self.new }
+        ensures pins { pins_of self.new ≡ pins_of self.old }
     {
         let _ = alloc;
         let Ok(copy) = name.clone() else {
@@ -82,7 +84,7 @@ impl<D: Disk + Drop> Partition<D> {
         let ended = get_ref(&self.limits, &self.book, pin, name);
         let tick = self.disk.tick();
         let event = Event::GetRef {
-            pin: pin.number,
+            pin: pin.number(),
             name: copy,
         };
         note(&mut self.trail, tick, who, event, Reply::of(ended))
@@ -91,9 +93,9 @@ impl<D: Disk + Drop> Partition<D> {
     /// The references whose names begin so at the position of a transaction, ascending by name. The record keeps the position
     /// in place of the list.
     pub fn list_refs(&mut self, alloc: Global, who: Who, pin: &Pin, prefix: &[u8]) -> Answer
-        requires { is_live self.old.state.pins pin.now ≡ true }
-        ensures called { Called D.tells D.view D.fault_count who (Asked.ListRefs pin.now prefix.now) result self.old self.new }
-        ensures pins { self.new.state.pins ≡ self.old.state.pins }
+        requires { is_live (pins_of self.old) pin.now ≡ true }
+        ensures called { Called D.tells D.view D.fault_count D.call_count who (Asked.ListRefs pin.now prefix.now) result self.old self.new }
+        ensures pins { pins_of self.new ≡ pins_of self.old }
     {
         let Ok(word) = Vec::from_slice(alloc, prefix) else {
             return Err(Refusal::Memory);
@@ -104,7 +106,7 @@ impl<D: Disk + Drop> Partition<D> {
         let reply = list_refs(alloc, &self.limits, &self.book, pin, prefix);
         let tick = self.disk.tick();
         let event = Event::ListRefs {
-            pin: pin.number,
+            pin: pin.number(),
             prefix: ListOf::from_vec(word),
         };
         note(&mut self.trail, tick, who, event, reply)
@@ -114,11 +116,11 @@ impl<D: Disk + Drop> Partition<D> {
     /// comes exactly where it isn't visible; `Damaged` exactly where the disk holds no record of that name at the place,
     /// which it names; `DeviceFault` only of a fault of the disk. The record keeps the position in place of the object.
     pub fn cat(&mut self, alloc: Global, who: Who, pin: &Pin, name: &Name) -> Answer
-        requires { is_live self.old.state.pins pin.now ≡ true }
-        ensures called { Called D.tells D.view D.fault_count who (Asked.Cat pin.now name.now) result self.old self.new }
+        requires { is_live (pins_of self.old) pin.now ≡ true }
+        ensures called { Called D.tells D.view D.fault_count D.call_count who (Asked.Cat pin.now name.now) result self.old self.new }
         ensures named { IsNamedSo name.now result }
-        ensures gives { IsTrue D.tells → CatGives self.old.state pin.now name.now (D.view self.old.disk).reads result }
-        ensures pins { self.new.state.pins ≡ self.old.state.pins }
+        ensures gives { IsTrue D.tells → CatGives (memory self.old) pin.now name.now (D.view self.old.disk).reads result }
+        ensures pins { pins_of self.new ≡ pins_of self.old }
     {
         if let Err(_) = take_room(&mut self.trail, self.book.live.len(), 1) {
             return Err(Refusal::Memory);
@@ -126,7 +128,7 @@ impl<D: Disk + Drop> Partition<D> {
         let reply = cat(alloc, &self.limits, &self.book, &mut self.disk, pin, name);
         let tick = self.disk.tick();
         let event = Event::Cat {
-            pin: pin.number,
+            pin: pin.number(),
             name: *name,
         };
         note(&mut self.trail, tick, who, event, reply)
@@ -144,9 +146,9 @@ impl<D: Disk + Drop> Partition<D> {
         stage: &Stage,
     ) -> Answer
         requires some { pass.old ≢ None }
-        requires live { IfSome pass.old (λ pin. is_live self.old.state.pins pin ≡ true) }
-        ensures called { IfSome pass.old (λ pin. Called D.tells D.view D.fault_count who (Asked.Commit pin stage.now.staged.refs stage.now.staged.records) result self.old self.new) }
-        ensures ended { IfSome pass.old (λ pin. EndsBy result pin pass.new self.old.state.pins self.new.state.pins) }
+        requires live { IfSome pass.old (λ pin. is_live (pins_of self.old) pin ≡ true) }
+        ensures called { IfSome pass.old (λ pin. Called D.tells D.view D.fault_count D.call_count who (Asked.Commit pin stage.now.staged.refs stage.now.staged.records) result self.old self.new) }
+        ensures ended { IfSome pass.old (λ pin. EndsBy result pin pass.new (pins_of self.old) (pins_of self.new)) }
     {
         match pass.take() {
             None => Err(Refusal::Memory),
@@ -161,8 +163,8 @@ impl<D: Disk + Drop> Partition<D> {
     }
 
     fn commit_by(&mut self, alloc: Global, who: Who, pin: &Pin, stage: &Stage) -> Answer
-        requires { is_live self.old.state.pins pin.now ≡ true }
-        ensures called { Called D.tells D.view D.fault_count who (Asked.Commit pin.now stage.now.staged.refs stage.now.staged.records) result self.old self.new }
+        requires { is_live (pins_of self.old) pin.now ≡ true }
+        ensures called { Called D.tells D.view D.fault_count D.call_count who (Asked.Commit pin.now stage.now.staged.refs stage.now.staged.records) result self.old self.new }
     {
         let (Ok(refs), Ok(records)) = (stage.refs(alloc), stage.records(alloc)) else {
             return Err(Refusal::Memory);
@@ -179,10 +181,10 @@ impl<D: Disk + Drop> Partition<D> {
         refs: RefUpdates,
         records: AddedRecords,
     ) -> Answer
-        requires live { is_live self.old.state.pins pin.now ≡ true }
+        requires live { is_live (pins_of self.old) pin.now ≡ true }
         requires refs { refs ≡ stage.now.staged.refs }
         requires records { records ≡ stage.now.staged.records }
-        ensures called { Called D.tells D.view D.fault_count who (Asked.Commit pin.now stage.now.staged.refs stage.now.staged.records) result self.old self.new }
+        ensures called { Called D.tells D.view D.fault_count D.call_count who (Asked.Commit pin.now stage.now.staged.refs stage.now.staged.records) result self.old self.new }
     {
         law_stage(stage);
         if let Err(_) = take_room(&mut self.trail, self.book.live.len(), 1) {
@@ -198,7 +200,7 @@ impl<D: Disk + Drop> Partition<D> {
         );
         let tick = self.disk.tick();
         let event = Event::Commit {
-            pin: pin.number,
+            pin: pin.number(),
             refs,
             records,
         };
@@ -207,14 +209,14 @@ impl<D: Disk + Drop> Partition<D> {
 
     /// Gives a transaction up, which it always does. It takes no memory.
     pub fn abort(&mut self, who: Who, pin: Pin) -> Answer
-        requires { is_live self.old.state.pins pin ≡ true }
-        ensures called { Called D.tells D.view D.fault_count who (Asked.Abort pin) result self.old self.new }
+        requires { is_live (pins_of self.old) pin ≡ true }
+        ensures called { Called D.tells D.view D.fault_count D.call_count who (Asked.Abort pin) result self.old self.new }
         ensures aborted { result ≡ Ok Answered.Aborted }
-        ensures pins { self.new.state.pins ≡ released self.old.state.pins pin }
+        ensures pins { pins_of self.new ≡ released (pins_of self.old) pin }
     {
         let ended = abort(&self.limits, &mut self.book, &pin);
         let tick = self.disk.tick();
-        let event = Event::Abort { pin: pin.number };
+        let event = Event::Abort { pin: pin.number() };
         note(&mut self.trail, tick, who, event, Reply::of(ended))
     }
 }

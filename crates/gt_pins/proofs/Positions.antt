@@ -1,5 +1,5 @@
 -- What live transactions read.
-use Rattle.std.proofs.Common.{◌≡◌, ℕ, ◌≤◌, Bool, true, false, not, cond, nat_eq, find, List, [], ◌∷◌, ◌++◌, Some, subst}
+use Rattle.std.proofs.Common.{◌≡◌, ℕ, ◌≤◌, Bool, true, false, not, cond, nat_eq, find, List, [], ◌∷◌, ◌++◌, Some, Result, Ok, Err, IfOk, OnErr, sym, subst, arith}
 use Rattle.gt_pins.specs.Live.{ReadBefore}
 use Rattle.gt_model.specs.Machine.{Pin, released}
 
@@ -24,3 +24,12 @@ reads_found n f (x ∷ xs) p read is = by (f x) is (reads_found n f xs p read.1)
     by : (b : Bool) → cond b (Some x) (find f xs) ≡ Some p → (find f xs ≡ Some p → p.position ≤ n) → p.position ≤ n
     by true is more = let same : x ≡ p = cc in subst (λ (q : Pin). q.position ≤ n) same read.0
     by false is more = more is
+
+pub reads_later : (m n : ℕ) (pins : List Pin) → m ≤ n → ReadBefore m pins → ReadBefore n pins
+reads_later m n [] le read = tt
+reads_later m n (p ∷ ps) le read = (omega (arith, le, read.0), reads_later m n ps le read.1)
+
+-- one that reads no more than all may begin, or it doesn't
+pub reads_begun_or_not : {T E : Type 0} (n : ℕ) (r : Result T E) (old new : List Pin) (p : Pin) → IfOk r (λ x. new ≡ old ++ p ∷ []) → OnErr r (new ≡ old) → p.position ≤ n → ReadBefore n old → ReadBefore n new
+reads_begun_or_not n (Ok done) old new p ok err le read = subst (λ (pins : List Pin). ReadBefore n pins) (sym ok) (reads_begun n old p read le)
+reads_begun_or_not n (Err e) old new p ok err le read = subst (λ (pins : List Pin). ReadBefore n pins) (sym err) read
