@@ -135,3 +135,7 @@ agrees_empty t base start refs = record {
   front = omega (arith, start);
   refs = λ p path low high. let is : p ≡ t.floor = omega (arith, start) in ap (λ n. refs_at t n path) is ∙ refs path ∙ ap (λ es. refs_in (after_all base es) path) (sym (nothing_of (p - t.floor)));
 }
+
+-- at the front the whole log counts
+pub agrees_front : (t : Table) (base : Content) (log : List Entry) → Agrees t base log → (path : List ℕ) → refs_at t t.front path ≡ refs_in (after_all base log) path
+agrees_front t base log h path = let i : t.front ≡ t.floor + length log = h.front in h.refs t.front path (omega (arith, i)) (omega arith) ∙ ap (λ es. refs_in (after_all base es) path) (old_part t.floor t.front log i)

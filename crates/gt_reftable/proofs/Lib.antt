@@ -8,3 +8,4 @@ pub mod RefsLaws
 pub mod ReadLaws
 pub mod AgreeLaws
 pub mod SeedLaws
+pub mod AllLaws

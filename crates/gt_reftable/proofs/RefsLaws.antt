@@ -1,5 +1,5 @@
 -- The references of a repository at a position, one by one.
-use Rattle.std.proofs.Common.{◌≡◌, ℕ, ◌+◌, Bool, true, false, cond, ◌&&◌, T, List, [], ◌∷◌, Option, Some, None, refl, sym, ap, ◌∙◌}
+use Rattle.std.proofs.Common.{◌≡◌, ℕ, ◌+◌, Bool, true, false, cond, T, List, [], ◌∷◌, Option, Some, None, refl, sym, ap, ◌∙◌}
 use Rattle.std.specs.Option.{option_map}
 use Rattle.std.specs.List.{cons_option}
 use Rattle.std.specs.Ordering.{eq_by_cmp, is_lt, is_eq}
@@ -9,7 +9,7 @@ use Rattle.std.specs.declared.cmp.Ordering.TheVariants.{Less, Equal, Greater}
 use Rattle.std.specs.FinMap as map
 use Rattle.std.specs.FinMap.{from_entries, find, is_sorted, entries_sorted, get-entries, get-from_entries, get-empty, get-insert, get-remove, same_map}
 use Rattle.std.specs.FinMap.Entries.{below_all}
-use Rattle.gt_model.specs.Contents.{key_cmp, Names, is_zero, with_value, with_refs}
+use Rattle.gt_model.specs.Contents.{key_cmp, Names, and_then, is_zero, with_value, with_refs}
 use Rattle.gt_model.specs.declared.update.RefUpdate.{RefUpdate}
 use Rattle.gt_model.specs.declared.entry.Entry.{Entry}
 use Rattle.gt_model.specs.declared.change.Change.{Change}
@@ -19,6 +19,8 @@ use Rattle.gt_versions.specs.Lives.{value_since}
 use Rattle.gt_versions.proofs.Keys.{at_key, get_key, key_cmp-IsAntisymmetric}
 use Rattle.gt_slots.specs.Present.{present, refs_since}
 use Rattle.gt_slots.specs.Slots.{items_of}
+use Rattle.gt_slots.proofs.ListLaws.{given}
+use Rattle.gt_slots.proofs.SortLaws.{front_of, back_of}
 use Rattle.gt_reftable.specs.Tracks.{Track, start, refs_of, IsInStep, step_new, step_updates}
 use Rattle.gt_reftable.specs.Table.{track_refs, track_value, refs_at, refs_change, refs_after, step_here, step_entry, Adds, IsSameTable, IsEmpty, Steps, Same}
 
@@ -27,15 +29,7 @@ same_refs m n is = same_map nat_list_cmp_total key_cmp-IsAntisymmetric m n is
 
 -- ---- what is present
 
-front_of : (a b : Bool) → T (a && b) → T a
-front_of true b p = tt
-front_of false b p = p
-
-back_of : (a b : Bool) → T (a && b) → T b
-back_of true b p = p
-back_of false b p = absurd p
-
-equal_by : (o : Ordering) → is_eq o ≡ true → o ≡ Equal
+pub equal_by : (o : Ordering) → is_eq o ≡ true → o ≡ Equal
 equal_by Less e = let no : ⊥ = cc in absurd no
 equal_by Equal e = refl
 equal_by Greater e = let no : ⊥ = cc in absurd no
@@ -53,31 +47,34 @@ module _ {X : Type 0} where
       let off : eq_by_cmp key_cmp q e.0 ≡ false = ap is_eq (nat_list_cmp_total.congr q k e.0 t) ∙ apart (key_cmp k e.0) (front_of _ _ h) in
       ap (λ b. cond b (Some e.1) (find key_cmp q es)) off ∙ none_below q k es t (back_of _ _ h)
 
+module _ {X Y : Type 0} (g : X → Option Y) where
+  pub find-given : (es : List (List ℕ × X)) → T (is_sorted key_cmp es) → (q : List ℕ) → find key_cmp q (given g es) ≡ and_then (find key_cmp q es) g
+  find-given [] h q = refl
+  find-given (e ∷ es) h q = by_test (find-given es (back_of _ _ h) q) (eq_by_cmp key_cmp q e.0) refl (g e.1) refl
+    where
+      cons : Option Y → List (List ℕ × Y)
+      cons o = cons_option (option_map (λ v. (e.0, v)) o) (given g es)
+
+      by_test : find key_cmp q (given g es) ≡ and_then (find key_cmp q es) g → (b : Bool) → eq_by_cmp key_cmp q e.0 ≡ b → (v : Option Y) → g e.1 ≡ v → find key_cmp q (cons (g e.1)) ≡ and_then (cond b (Some e.1) (find key_cmp q es)) g
+      by_test rest true t (Some w) s = ap (λ o. find key_cmp q (cons o)) s ∙ ap (λ b. cond b (Some w) (find key_cmp q (given g es))) t ∙ sym s
+      by_test rest true t None s = ap (λ o. find key_cmp q (cons o)) s ∙ rest ∙ ap (λ o. and_then o g) (none_below q e.0 es (equal_by (key_cmp q e.0) t) (front_of _ _ h)) ∙ sym s
+      by_test rest false t (Some w) s = ap (λ o. find key_cmp q (cons o)) s ∙ ap (λ b. cond b (Some w) (find key_cmp q (given g es))) t ∙ rest
+      by_test rest false t None s = ap (λ o. find key_cmp q (cons o)) s ∙ rest
+
 module _ (c p : ℕ) where
   abbrev value_of : List (ℕ × Option (List ℕ)) × ℕ → Option (List ℕ)
   value_of s = value_since c (last_at s.0 p None)
 
-  abbrev found : Option (List (ℕ × Option (List ℕ)) × ℕ) → Option (List ℕ)
-  found s = value_since c (last_at (items_of s) p None)
+  of_slot : (s : Option (List (ℕ × Option (List ℕ)) × ℕ)) → and_then s value_of ≡ value_since c (last_at (items_of s) p None)
+  of_slot None = refl
+  of_slot (Some s) = refl
 
-  pub find-present : (es : List (List ℕ × (List (ℕ × Option (List ℕ)) × ℕ))) → T (is_sorted key_cmp es) → (q : List ℕ) → find key_cmp q (present c p es) ≡ found (find key_cmp q es)
-  find-present [] h q = refl
-  find-present (e ∷ es) h q = by_test (find-present es (back_of _ _ h) q) (eq_by_cmp key_cmp q e.0) refl (value_of e.1) refl
-    where
-      cons : Option (List ℕ) → List (List ℕ × List ℕ)
-      cons o = cons_option (option_map (λ v. (e.0, v)) o) (present c p es)
-
-      by_test : find key_cmp q (present c p es) ≡ found (find key_cmp q es) → (b : Bool) → eq_by_cmp key_cmp q e.0 ≡ b → (v : Option (List ℕ)) → value_of e.1 ≡ v → find key_cmp q (cons (value_of e.1)) ≡ found (cond b (Some e.1) (find key_cmp q es))
-      by_test rest true t (Some w) s = ap (λ o. find key_cmp q (cons o)) s ∙ ap (λ b. cond b (Some w) (find key_cmp q (present c p es))) t ∙ sym s
-      by_test rest true t None s = ap (λ o. find key_cmp q (cons o)) s ∙ rest ∙ ap found (none_below q e.0 es (equal_by (key_cmp q e.0) t) (front_of _ _ h)) ∙ sym s
-      by_test rest false t (Some w) s = ap (λ o. find key_cmp q (cons o)) s ∙ ap (λ b. cond b (Some w) (find key_cmp q (present c p es))) t ∙ rest
-      by_test rest false t None s = ap (λ o. find key_cmp q (cons o)) s ∙ rest
-
-pub get-refs_since : (c p : ℕ) (m : map.FinMap key_cmp (List (ℕ × Option (List ℕ)) × ℕ)) (x : List ℕ) → map.get (refs_since c p m) x ≡ value_since c (last_at (items_of (map.get m x)) p None)
-get-refs_since c p m x =
-    get-from_entries nat_list_cmp_total (present c p (map.entries m)) x
-    ∙ find-present c p (map.entries m) (entries_sorted m) x
-    ∙ ap (λ s. value_since c (last_at (items_of s) p None)) (sym (get-entries m x))
+  pub get-refs_since : (m : map.FinMap key_cmp (List (ℕ × Option (List ℕ)) × ℕ)) (x : List ℕ) → map.get (refs_since c p m) x ≡ value_since c (last_at (items_of (map.get m x)) p None)
+  get-refs_since m x =
+      get-from_entries nat_list_cmp_total (present c p (map.entries m)) x
+      ∙ find-given value_of (map.entries m) (entries_sorted m) x
+      ∙ of_slot (find key_cmp x (map.entries m))
+      ∙ ap (λ s. value_since c (last_at (items_of s) p None)) (sym (get-entries m x))
 
 pub get-track_refs : (s : Option Track) (p : ℕ) (x : List ℕ) → map.get (track_refs s p) x ≡ track_value s p x
 get-track_refs None p x = get-empty key_cmp x

@@ -1,5 +1,6 @@
 -- The references of all repositories at each position.
-use Rattle.std.specs.Prelude.{◌≡◌, ℕ, ◌+◌, ◌≤◌, Bool, true, false, if◌then◌else◌, List, [], Option, Some, None, IsTrue}
+use Rattle.std.specs.Prelude.{◌≡◌, ℕ, ◌+◌, ◌≤◌, Bool, true, false, if◌then◌else◌, List, [], ◌∷◌, map as map_list, Option, Some, None, IsTrue}
+use Rattle.std.specs.List.{flat_map}
 use Rattle.std.specs.Ordering.{eq_by_cmp}
 use Rattle.std.specs.FinMap as map
 use Rattle.std.specs.FinMap.{FinMap, code}
@@ -9,8 +10,10 @@ use Rattle.gt_model.specs.Contents.{key_cmp, Names, with_refs}
 use Rattle.gt_model.specs.declared.entry.Entry.{Entry}
 use Rattle.gt_model.specs.declared.change.Change.{Change}
 use Rattle.gt_model.specs.declared.change.Change.TheVariants.{Create, Delete, Link, Write, Repack, Prune, PackRefs, Unlink}
-use Rattle.gt_versions.specs.Versions.{ready}
+use Rattle.gt_model.specs.declared.reference.RefAt.{RefAt}
+use Rattle.gt_model.specs.declared.reference.RefValue.{RefValue}
 use Rattle.gt_model.specs.declared.update.RefUpdate.{RefUpdate}
+use Rattle.gt_versions.specs.Versions.{ready}
 use Rattle.gt_slots.specs.Slots.{items_of}
 use Rattle.gt_reftable.specs.Tracks.{Track, track_code, value_in, refs_of, IsTrackUpTo, HasRoom, step_updates}
 
@@ -34,6 +37,21 @@ track_refs (Some t) p = refs_of t p
 -- the references of a repository at a position, none where it isn't there
 abbrev pub refs_at : Table → ℕ → List ℕ → Names
 refs_at t p path = track_refs (map.get t.repos path) p
+
+-- a reference and its value, with the path of its repository
+abbrev pub ref_at : List ℕ → RefValue → RefAt
+ref_at path r = record { path = path; name = r.name; value = r.value }
+
+-- the references of a repository, ascending by name, with its path
+abbrev pub with_path : List ℕ → Names → List RefAt
+with_path path refs = map_list (λ r. record { path = path; name = r.0; value = r.1 }) (map.entries refs)
+
+abbrev pub all_in : ℕ → List (List ℕ × Track) → List RefAt
+all_in p repos = flat_map (λ e. with_path e.0 (refs_of e.1 p)) repos
+
+-- every reference at a position, ascending by repository, then by name
+abbrev pub all_at : Table → ℕ → List RefAt
+all_at t p = all_in p (map.entries t.repos)
 
 -- ---- what an entry does to the references of a repository
 
@@ -96,6 +114,11 @@ track_value (Some t) p x = value_in t p x
 abbrev pub IsSlotUpTo : ℕ → Option Track → Type 0
 IsSlotUpTo q None = Unit {0}
 IsSlotUpTo q (Some t) = IsTrackUpTo q t
+
+-- each of these repositories has nothing past this position
+abbrev pub EachUpTo : ℕ → List (List ℕ × Track) → Type 0
+EachUpTo q [] = Unit {0}
+EachUpTo q (e ∷ es) = IsTrackUpTo q e.1 × EachUpTo q es
 
 abbrev pub AllUpTo : ℕ → FinMap key_cmp Track → Type 0
 AllUpTo q m = (path : List ℕ) → IsSlotUpTo q (map.get m path)

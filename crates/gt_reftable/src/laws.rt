@@ -3,8 +3,9 @@ ghost use Rattle.std.specs.Prelude.{◌≡◌, ℕ, List, [], ◌++◌, ◌∷�
 ghost use Rattle.std.specs.FinMap as map;
 ghost use Rattle.gt_model.specs.Contents.{Content, value, after_all, fits};
 ghost use Rattle.gt_model.specs.Verdicts.{refs_in};
+ghost use Rattle.gt_model.specs.Histories.{all_refs};
 ghost use Rattle.gt_model.specs.declared.entry.Entry.{Entry};
-ghost use Rattle.gt_reftable.specs.Table.{Table, refs_at, Adds, IsSameTable};
+ghost use Rattle.gt_reftable.specs.Table.{Table, refs_at, all_at, Adds, IsSameTable};
 ghost use Rattle.gt_reftable.specs.Agree.{Agrees};
 
 /// A table that has the references of a content, and no entry yet, agrees with it.
@@ -26,4 +27,9 @@ pub fn same_tables_agree()
 /// What a reference names is what the references of its repository have at it.
 pub fn references_are_values()
     ensures { (c : Content) (path name : List ℕ) → map.get (refs_in c path) name ≡ value c path name }
+{}
+
+/// All references of a table that agrees with its log, listed at the front, are those of the content there.
+pub fn lists_are_of_contents()
+    ensures { (t : Table) (base : Content) (log : List Entry) → Agrees t base log → all_at t t.front ≡ all_refs (after_all base log) }
 {}

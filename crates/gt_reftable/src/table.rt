@@ -4,14 +4,15 @@ ghost use Rattle.std.specs.List.{list_any};
 ghost use Rattle.std.specs.Option.{option_copied};
 ghost use Rattle.gt_model.specs.Verdicts.{clashes, same_name};
 ghost use Rattle.gt_model.specs.Machine.{references};
-ghost use Rattle.gt_reftable.specs.Table.{refs_at, Adds, Seeds, IsEmpty, IsSameTable, IsPrepared};
+ghost use Rattle.gt_reftable.specs.Table.{refs_at, all_at, Adds, Seeds, IsEmpty, IsSameTable, IsPrepared};
 
 use crate::adding::add_next;
+use crate::listing::list_repos;
 use crate::preparing::prepare_entry;
 use crate::repo::Repo;
 use crate::seeding::seed_ref;
 use gt_list::NoMemory;
-use gt_model::{Entry, RefList};
+use gt_model::{Entry, RefList, RefsAt};
 use gt_name::{Name, Names2, RefName, RepoPath};
 use std::alloc::Global;
 use std::collections::BTreeMap;
@@ -115,6 +116,14 @@ impl RefTable {
                 }
             }
         }
+    }
+
+    /// Every reference of all repositories at the front, ascending by path, then by name. It passes no reference that was
+    /// deleted, and none of an earlier life of a repository; a repository that has none costs a step.
+    pub fn list_all(&self, alloc: Global) -> Result<RefsAt, NoMemory>
+        ensures { IfOk result (λ list. list ≡ all_at self.now self.now.front) }
+    {
+        list_repos(&self.repos, alloc, self.front)
     }
 
     /// The least reference of a repository at a position that stands in the folder of `name`, or in whose folder `name`

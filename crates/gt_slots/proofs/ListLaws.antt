@@ -3,7 +3,7 @@ use Rattle.std.proofs.Common.{◌≡◌, ℕ, zero, suc, ◌+◌, ◌<◌, ◌�
 use Rattle.std.proofs.lemmas.Bool.Decides.{nat_tests}
 use Rattle.std.proofs.lemmas.List.{append-nil, map-append}
 use Rattle.std.proofs.lemmas.List.Elements.{filter-append, filter_map-append}
-use Rattle.std.specs.List.{starts_with, cons_option}
+use Rattle.std.specs.List.{starts_with, cons_option, filter_map}
 use Rattle.std.specs.Option.{option_map}
 use Rattle.std.specs.declared.cmp.Ordering.TheVariants.{Less, Equal, Greater}
 use Rattle.std.specs.Ordering.{is_lt, ordering_then}
@@ -33,6 +33,29 @@ pub entries_sorted_of : {X : Type 0} (es : List (List ℕ × X)) → T (is_sorte
 entries_sorted_of es h =
     ap (λ m. entries m) (same_map nat_list_cmp_total key_cmp-IsAntisymmetric (from_entries es) (from_sorted es) (λ q. get-from_entries nat_list_cmp_total es q ∙ sym (get-from_sorted key_cmp es q h)))
     ∙ entries-from_sorted key_cmp es h
+
+-- ---- what the values give, under their keys
+
+module _ {X Y : Type 0} (g : X → Option Y) where
+  -- in order, where they give something
+  abbrev pub given : List (List ℕ × X) → List (List ℕ × Y)
+  given es = filter_map (λ e. option_map (λ v. (e.0, v)) (g e.1)) es
+
+  below_given : (k : List ℕ) (es : List (List ℕ × X)) → T (below_all key_cmp k es) → T (below_all key_cmp k (given es))
+  below_given k [] h = tt
+  below_given k (x ∷ xs) h = by (below_given k xs (back_of (is_lt (key_cmp k x.0)) (below_all key_cmp k xs) h)) (g x.1)
+    where
+      by : T (below_all key_cmp k (given xs)) → (o : Option Y) → T (below_all key_cmp k (cons_option (option_map (λ v. (x.0, v)) o) (given xs)))
+      by more None = more
+      by more (Some v) = both (is_lt (key_cmp k x.0)) (below_all key_cmp k (given xs)) (front_of (is_lt (key_cmp k x.0)) (below_all key_cmp k xs) h) more
+
+  pub sorted_given : (es : List (List ℕ × X)) → T (is_sorted key_cmp es) → T (is_sorted key_cmp (given es))
+  sorted_given [] h = tt
+  sorted_given (x ∷ xs) h = by (sorted_given xs (back_of (below_all key_cmp x.0 xs) (is_sorted key_cmp xs) h)) (g x.1)
+    where
+      by : T (is_sorted key_cmp (given xs)) → (o : Option Y) → T (is_sorted key_cmp (cons_option (option_map (λ v. (x.0, v)) o) (given xs)))
+      by more None = more
+      by more (Some v) = both (below_all key_cmp x.0 (given xs)) (is_sorted key_cmp (given xs)) (below_given x.0 xs (front_of (below_all key_cmp x.0 xs) (is_sorted key_cmp xs) h)) more
 
 -- ---- names that begin so stand together
 
@@ -169,26 +192,10 @@ module _ (c p : ℕ) where
 
   -- ---- the entries of the map
 
-  below_present : (k : List ℕ) (es : List (List ℕ × (List (ℕ × Option (List ℕ)) × ℕ))) → T (below_all key_cmp k es) → T (below_all key_cmp k (present c p es))
-  below_present k [] h = tt
-  below_present k (x ∷ xs) h = by (below_present k xs (back_of (is_lt (key_cmp k x.0)) (below_all key_cmp k xs) h)) (value_since c (last_at x.1.0 p None))
-    where
-      by : T (below_all key_cmp k (present c p xs)) → (o : Option (List ℕ)) → T (below_all key_cmp k (cons_option (option_map (λ v. (x.0, v)) o) (present c p xs)))
-      by more None = more
-      by more (Some v) = both (is_lt (key_cmp k x.0)) (below_all key_cmp k (present c p xs)) (front_of (is_lt (key_cmp k x.0)) (below_all key_cmp k xs) h) more
-
-  pub sorted_present : (es : List (List ℕ × (List (ℕ × Option (List ℕ)) × ℕ))) → T (is_sorted key_cmp es) → T (is_sorted key_cmp (present c p es))
-  sorted_present [] h = tt
-  sorted_present (x ∷ xs) h = by (sorted_present xs (back_of (below_all key_cmp x.0 xs) (is_sorted key_cmp xs) h)) (value_since c (last_at x.1.0 p None))
-    where
-      by : T (is_sorted key_cmp (present c p xs)) → (o : Option (List ℕ)) → T (is_sorted key_cmp (cons_option (option_map (λ v. (x.0, v)) o) (present c p xs)))
-      by more None = more
-      by more (Some v) = both (below_all key_cmp x.0 (present c p xs)) (is_sorted key_cmp (present c p xs)) (below_present x.0 xs (front_of (below_all key_cmp x.0 xs) (is_sorted key_cmp xs) h)) more
-
   pub entries_are : (ps : List (List (List ℕ × (List (ℕ × Option (List ℕ)) × ℕ)))) → IsWell ps → entries (refs_since c p (from_entries (all ps))) ≡ present c p (all ps)
   entries_are ps w =
       ap (λ l. entries (from_entries {R = key_cmp} (present c p l))) (entries_sorted_of (all ps) w.sorted)
-      ∙ entries_sorted_of (present c p (all ps)) (sorted_present (all ps) w.sorted)
+      ∙ entries_sorted_of (present c p (all ps)) (sorted_given (λ (s : List (ℕ × Option (List ℕ)) × ℕ). value_since c (last_at s.0 p None)) (all ps) w.sorted)
 
   pub listed : (prefix : List ℕ) (ps : List (List (List ℕ × (List (ℕ × Option (List ℕ)) × ℕ)))) (i j : ℕ) → IsWell ps → IsPlace prefix ps i j → references (refs_since c p (from_entries (all ps))) prefix ≡ values_of c p (taken prefix (rest ps i j))
   listed prefix ps i j w place =

@@ -1,5 +1,5 @@
 -- Pages without an entry.
-use Rattle.std.proofs.Common.{◌≡◌, ◌≢◌, ℕ, zero, suc, ◌<◌, Bool, true, false, cond, ◌&&◌, T, List, [], ◌∷◌, ◌++◌, length, take, drop, slice_index_or, slice_set, Option, Some, None, refl, sym, ap, ◌∙◌, subst, arith, append_assoc, length-append}
+use Rattle.std.proofs.Common.{◌≡◌, ◌≢◌, ℕ, zero, suc, ◌<◌, Bool, true, false, cond, T, List, [], ◌∷◌, ◌++◌, length, take, drop, slice_index_or, slice_set, None, refl, sym, ap, ◌∙◌, subst, arith, append_assoc, length-append}
 use Rattle.std.proofs.lemmas.List.{length-drop, length-take}
 use Rattle.std.specs.List.{remove}
 use Rattle.std.specs.Ordering.{is_lt, eq_by_cmp}
@@ -7,7 +7,7 @@ use Rattle.std.specs.FinMap.{is_sorted}
 use Rattle.std.specs.FinMap.Entries.{below_all}
 use Rattle.gt_model.specs.Contents.{key_cmp}
 use Rattle.gt_versions.proofs.Keys.{at_key, at_key-same, flip}
-use Rattle.gt_slots.specs.Pages.{all, AllBefore, NoneEmpty, IsWell, page, front, IsAt, Inserts}
+use Rattle.gt_slots.specs.Pages.{all, AllBefore, NoneEmpty, IsWell, page, front, Inserts}
 use Rattle.gt_slots.proofs.SortLaws.{both, front_of, back_of, sorted_right, look_past, none_above}
 use Rattle.gt_slots.proofs.EditLaws.{full_set}
 use Rattle.gt_slots.proofs.EntryLaws.{tail_at, all_at, others_by, some_entry}

@@ -1,11 +1,13 @@
 -- What tables that follow a log say of its content, and that they still do with one more entry.
-use Rattle.std.proofs.Common.{◌≡◌, ℕ, Bool, ◌-◌, ◌≤◌, List, [], ◌∷◌, ◌++◌, length, Option, Some, None, sym, ap, ◌∙◌, subst, arith}
+use Rattle.std.proofs.Common.{◌≡◌, ℕ, Bool, ◌-◌, ◌≤◌, List, [], ◌∷◌, ◌++◌, length, Option, Some, None, Result, Ok, Err, IfOk, sym, ap, ◌∙◌, subst, arith}
 use Rattle.std.proofs.lemmas.List.{take_all}
 use Rattle.gt_model.specs.declared.entry.Entry.{Entry}
 use Rattle.std.specs.FinMap as map
 use Rattle.std.specs.FinMap.{get-empty}
 use Rattle.gt_model.specs.Contents.{key_cmp, Repo, Content, nothing, after_all, at, is_visible, least_member}
+use Rattle.gt_model.specs.Histories.{all_refs}
 use Rattle.gt_model.specs.Verdicts.{refs_in}
+use Rattle.gt_model.specs.declared.reference.RefAt.{RefAt}
 use Rattle.gt_objset.specs.Agree as objects
 use Rattle.gt_objset.specs.Table as objects_table
 use Rattle.gt_reftable.specs.Agree as refs
@@ -29,6 +31,10 @@ visible_there t b p path name h is = is ∙ ap (λ (n : ℕ). is_visible (at n n
 pub member_here : (t : Tables) (o : Option (List ℕ)) (path : List ℕ) → Follow t → o ≡ least_member (at t.objects.floor nothing t.log (length t.log)) path → o ≡ least_member (content t.log) path
 member_here t o path h is =
     is ∙ ap (λ (n : ℕ). least_member (at n nothing t.log (length t.log)) path) h.objects_floor ∙ ap (λ (c : Content). least_member c path) (at_front t.log)
+
+pub all_here : {E : Type 0} (res : Result (List RefAt) E) (all : List RefAt) (log : List Entry) → IfOk res (λ l. l ≡ all) → all ≡ all_refs (content log) → IfOk res (λ l. l ≡ all_refs (content log))
+all_here (Err e) all log h is = tt
+all_here (Ok l) all log h is = h ∙ is
 
 pub followed : (old new : Tables) (entry : Entry) → Follow old → refs_table.Adds entry old.refs new.refs → objects_table.Adds entry old.objects new.objects → new.log ≡ old.log ++ entry ∷ []
     → refs.Agrees new.refs nothing (old.log ++ entry ∷ []) → objects.Agrees new.objects nothing nowhere (old.log ++ entry ∷ []) → Follow new

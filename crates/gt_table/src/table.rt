@@ -1,15 +1,19 @@
 ghost use Rattle.std.specs.Prelude.{◌≡◌, ◌≤◌, ◌+◌, ◌++◌, ◌∷◌, [], length, is_some, IfOk, OnOk, IsTrue};
 ghost use Rattle.std.specs.Option.{option_copied};
 ghost use Rattle.gt_model.specs.Contents.{value, is_visible, has_repo, least_member, fits};
+ghost use Rattle.gt_model.specs.Histories.{all_refs};
 ghost use Rattle.gt_model.specs.Machine.{references};
 ghost use Rattle.gt_model.specs.Verdicts.{clash, refs_in};
 ghost use Rattle.gt_table.specs.Table.{HasRoomFor, content, content_at, place_at};
 
 use gt_list::{NoMemory, Roomy};
-use gt_model::{Entry, RefList};
+use gt_model::{Entry, RefList, RefsAt};
 use gt_name::{Name, Names2, RefName, RepoPath};
 use gt_objset::{ObjSet, Place, tables_follow_their_logs};
-use gt_reftable::{RefTable, empty_tables_agree, references_are_values, tables_follow_their_log};
+use gt_reftable::{
+    RefTable, empty_tables_agree, lists_are_of_contents, references_are_values,
+    tables_follow_their_log,
+};
 use std::alloc::Global;
 use std::marker::Model;
 
@@ -39,7 +43,7 @@ impl Table {
     pub fn new(alloc: Global) -> Result<Table, NoMemory>
         ensures { IfOk result (λ t. t.log ≡ []) }
     {
-        // a law, which does nothing, as those in `value_at` and `add`
+        // a law, which does nothing, as those in `value_at`, `all_refs` and `add`
         empty_tables_agree();
         let refs = match RefTable::start(alloc, 0) {
             Ok(refs) => refs,
@@ -105,6 +109,15 @@ impl Table {
         ensures { IfOk result (λ list. list ≡ references (refs_in (content_at self.now.log at) path.now) prefix.now) }
     {
         self.refs.list(alloc, at, path, prefix)
+    }
+
+    /// Every reference at the front, ascending by repository, then by name. It costs a step for each, and a step for each
+    /// repository that was ever written to.
+    pub fn all_refs(&self, alloc: Global) -> Result<RefsAt, NoMemory>
+        ensures { IfOk result (λ list. list ≡ all_refs (content self.now.log)) }
+    {
+        lists_are_of_contents();
+        self.refs.list_all(alloc)
     }
 
     /// Where the record stands that is seen under a name in a repository at a position: the own one, else its pool's. None
