@@ -5,6 +5,7 @@ use Rattle.gt_model.specs.declared.done.Done.{Done}
 use Rattle.gt_model.specs.declared.event.Event.{Event}
 use Rattle.gt_model.specs.declared.event.Event.TheVariants.{Create, Delete, Link, Begin, GetRef, ListRefs, Cat, Commit, Abort, HouseOpen, HouseStep, HouseCommit, Apply, Trim, Sweep}
 use Rattle.gt_model.specs.declared.limits.Limits.{Limits}
+use Rattle.gt_model.specs.declared.reference.RefAt.{RefAt}
 use Rattle.gt_model.specs.declared.refusal.Refusal.{Refusal}
 use Rattle.gt_model.specs.declared.refusal.Refusal.TheVariants.{Memory}
 use Rattle.gt_model.specs.declared.turn.Turn.{Turn}
@@ -93,8 +94,8 @@ module _ {D : Type 0} (tells : Bool) (view : D → View) (fault_count call_count
       step = stops p.limits e (memory p) asked out
 
   -- no record was added, and nothing else has changed
-  pub not_called : (old : Shown D) (trail : List Turn) → trail ≡ old.trail → IsTrue (is_asked (memory old) e) → RunsOut e (memory old) (memory old) → CalledSo (Err Memory) old (record old { trail = trail })
-  not_called old trail same asked out = subst (λ (t : List Turn). CalledSo (Err Memory) old (record old { trail = t })) (sym same) (same_called old asked out)
+  pub not_called : (old : Shown D) (opening : List RefAt) (trail : List Turn) → opening ≡ old.opening → trail ≡ old.trail → IsTrue (is_asked (memory old) e) → RunsOut e (memory old) (memory old) → CalledSo (Err Memory) old (record old { opening = opening; trail = trail })
+  not_called old opening trail kept same asked out = subst (λ (t : List RefAt × List Turn). CalledSo (Err Memory) old (record old { opening = t.0; trail = t.1 })) (λ i. (sym kept i, sym same i)) (same_called old asked out)
 
   -- The record of the event was added. The machine takes a step with what is told, of which the same is kept; over a disk that tells, that is what is answered.
   told_called : (old new : Shown D) (answer told held : Result Done Refusal) (tick : ℕ) → tick ≡ (view new.disk).clock → held ≡ kept (memory old) e answer → new.number ≡ old.number → new.limits ≡ old.limits → new.opening ≡ old.opening

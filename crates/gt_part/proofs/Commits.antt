@@ -15,15 +15,19 @@ use Rattle.gt_model.specs.declared.refusal.Refusal.TheVariants.{RepositoryGone, 
 use Rattle.gt_model.specs.declared.update.RefUpdate.{RefUpdate}
 use Rattle.gt_model.specs.Contents.{Content, and_then, has_repo, finds_old, with_refs}
 use Rattle.gt_model.specs.Verdicts.{Staged, Ready, verdict, failed, first_some, conflict, directory, missing_value, missing_dep, target, clash_in, refs_in, is_present, added_records, needed_names}
-use Rattle.gt_model.specs.Machine.{Pin, State, content, released, is_live, is_empty, settles, pin_of, is_full, refuses, answers, adds, committed, effect, Ends, Fails, Acts, SettledEntry, Step, with_pins, next_entry, front}
+use Rattle.gt_model.specs.Machine.{Pin, State, content, released, is_live, is_empty, settles, pin_of, is_full, refuses, answers, adds, committed, effect, Ends, Fails, Acts, SettledEntry, Step, with_pins, next_entry, front, is_fault}
 use Rattle.gt_part.specs.Live.{ends, Ended}
 use Rattle.gt_pins.proofs.Numbers.{released_gone}
 
 -- ---- a check that fails ends the transaction
 
+-- It ends the transaction, and is no fault.
+abbrev IsEnd : Refusal → Type 0
+IsEnd refusal = (ends (Err refusal) ≡ true) × (is_fault refusal ≡ false)
+
 abbrev EndsIt : Option Refusal → Type 0
 EndsIt None = Unit {0}
-EndsIt (Some refusal) = ends (Err refusal) ≡ true
+EndsIt (Some refusal) = IsEnd refusal
 
 ends_first : {A : Type 0} (f : A → Option Refusal) (xs : List A) → ((x : A) → EndsIt (f x)) → EndsIt (first_some f xs)
 ends_first f [] each = tt
@@ -37,11 +41,11 @@ ends_or : (a b : Option Refusal) → EndsIt a → EndsIt b → EndsIt (option_or
 ends_or None b one two = two
 ends_or (Some refusal) b one two = one
 
-ends_unless : (b : Bool) (refusal : Refusal) → ends (Err refusal) ≡ true → EndsIt (cond b None (Some refusal))
+ends_unless : (b : Bool) (refusal : Refusal) → IsEnd refusal → EndsIt (cond b None (Some refusal))
 ends_unless true refusal is = tt
 ends_unless false refusal is = is
 
-ends_map : {A : Type 0} (f : A → Refusal) (o : Option A) → ((a : A) → ends (Err (f a)) ≡ true) → EndsIt (option_map f o)
+ends_map : {A : Type 0} (f : A → Refusal) (o : Option A) → ((a : A) → IsEnd (f a)) → EndsIt (option_map f o)
 ends_map f None each = tt
 ends_map f (Some a) each = each a
 
@@ -53,12 +57,12 @@ failed_ends : (c : Content) (path : List ℕ) (s : Staged) → EndsIt (failed c 
 failed_ends c path s = by (has_repo c path)
   where
     by : (b : Bool) → EndsIt (cond b (option_or (conflict c path s) (option_or (directory c path s) (option_or (missing_value c path s) (missing_dep c path s)))) (Some RepositoryGone))
-    by false = refl
+    by false = (refl, refl)
     by true =
-        ends_or (conflict c path s) _ (ends_first _ s.refs (λ u. ends_unless (finds_old c path u) _ refl))
-        (ends_or (directory c path s) _ (ends_first _ s.refs (λ u. ends_then (target u) _ (λ new. ends_map (DirectoryConflict u.name) (clash_in (with_refs (refs_in c path) s.refs) u.name) (λ other. refl))))
-        (ends_or (missing_value c path s) _ (ends_first _ s.refs (λ u. ends_then (target u) _ (λ new. ends_unless (is_present c path s new) _ refl)))
-        (ends_first _ (added_records c path s) (λ a. ends_map (λ dep. MissingObject dep (Object a.name)) (find (λ dep. not (is_present c path s dep)) (deps a.whole)) (λ dep. refl)))))
+        ends_or (conflict c path s) _ (ends_first _ s.refs (λ u. ends_unless (finds_old c path u) _ (refl, refl)))
+        (ends_or (directory c path s) _ (ends_first _ s.refs (λ u. ends_then (target u) _ (λ new. ends_map (DirectoryConflict u.name) (clash_in (with_refs (refs_in c path) s.refs) u.name) (λ other. (refl, refl)))))
+        (ends_or (missing_value c path s) _ (ends_first _ s.refs (λ u. ends_then (target u) _ (λ new. ends_unless (is_present c path s new) _ (refl, refl))))
+        (ends_first _ (added_records c path s) (λ a. ends_map (λ dep. MissingObject dep (Object a.name)) (find (λ dep. not (is_present c path s dep)) (deps a.whole)) (λ dep. (refl, refl))))))
 
 abbrev verdict_by : Content → List ℕ → Staged → Option Refusal → Result Ready Refusal
 verdict_by c path s o = elim o [
@@ -66,12 +70,12 @@ verdict_by c path s o = elim o [
   | None ↦ Ok (record { refs = s.refs; needed = needed_names c path s; added = map (λ a. a.name) (added_records c path s) })
 ]
 
-verdict_ends : (c : Content) (path : List ℕ) (s : Staged) (refusal : Refusal) → verdict c path s ≡ Err refusal → ends (Err refusal) ≡ true
+pub verdict_ends : (c : Content) (path : List ℕ) (s : Staged) (refusal : Refusal) → verdict c path s ≡ Err refusal → IsEnd refusal
 verdict_ends c path s refusal is = by (failed c path s) (failed_ends c path s) is
   where
-    by : (o : Option Refusal) → EndsIt o → verdict_by c path s o ≡ Err refusal → ends (Err refusal) ≡ true
+    by : (o : Option Refusal) → EndsIt o → verdict_by c path s o ≡ Err refusal → IsEnd refusal
     by None here e = absurd (cc (e))
-    by (Some r) here e = let same : r ≡ refusal = cc (e) in subst (λ (r : Refusal). ends (Err r) ≡ true) same here
+    by (Some r) here e = let same : r ≡ refusal = cc (e) in subst IsEnd same here
 
 -- ---- the transactions after a commit
 
@@ -98,7 +102,7 @@ module _ (limits : Limits) (pin : ℕ) (refs : List RefUpdate) (records : List A
 
   committed_ends : (s new : State) (answer : Result Done Refusal) (v : Result Ready Refusal) → verdict (content s) (pin_of s pin).path staged ≡ v → Ends (committed limits s pin staged v) s answer new → LeavesBy answer pin s.pins new.pins
   committed_ends s new answer (Err refusal) is (said, same) =
-      gone answer pin s.pins new.pins (ap ends said ∙ verdict_ends (content s) (pin_of s pin).path staged refusal is) (pins_are s new (released s.pins pin) same)
+      gone answer pin s.pins new.pins (ap ends said ∙ (verdict_ends (content s) (pin_of s pin).path staged refusal is).0) (pins_are s new (released s.pins pin) same)
   committed_ends s new answer (Ok ready) is done = by (is_full limits s) done
     where
       e : Entry

@@ -1,21 +1,25 @@
 -- How a partition's history goes on.
-use Rattle.std.proofs.Common.{◌≡◌, ◌⊎◌, inl, inr, ⊎_elim, ℕ, ◌+◌, ◌<◌, ◌≤◌, List, [], ◌∷◌, ◌++◌, Result, Ok, Err, refl, sym, ◌∙◌, ap, subst, arith, IsTrue, append_assoc, IfOk, IfErr, ◌-◌, ◌^◌, min, Bool, true, false}
+use Rattle.std.proofs.Common.{◌≡◌, ◌⊎◌, inl, inr, ⊎_elim, ℕ, ◌+◌, ◌<◌, ◌≤◌, List, [], ◌∷◌, ◌++◌, length, length-append, Option, Some, None, Result, Ok, Err, refl, sym, ◌∙◌, ap, subst, arith, IsTrue, append_assoc, IfOk, IfErr, ◌-◌, ◌^◌, min, Bool, true, false}
 use Rattle.std.specs.Prelude.{if◌then◌else◌}
 use Rattle.std.proofs.lemmas.Bool.{cases_lt}
 use Rattle.gt_disk.specs.Files.{Files, States, View, now, IsImage, Rose}
 use Rattle.gt_disk.specs.Moments.{Since, Narrows}
 use Rattle.gt_log.specs.declared.mount_error.MountError.{MountError}
+use Rattle.gt_model.specs.declared.entry.Entry.{Entry}
 use Rattle.gt_model.specs.declared.limits.Limits.{Limits}
 use Rattle.gt_model.specs.declared.turn.Turn.{Turn}
-use Rattle.gt_model.specs.Machine.{State, Recovered, Settles, MayRecover, opening, is_faulty}
+use Rattle.gt_model.specs.Machine.{State, Pin, Recovered, Settles, MayRecover, opening, unapplied, with_doubt, is_faulty}
 use Rattle.gt_model.specs.Histories.{Happening, opened, last_state}
+use Rattle.gt_model.specs.Contents.{nothing}
+use Rattle.gt_sound.specs.Sound.{IsSoundState}
+use Rattle.gt_sound.proofs.Logs.{log_sound, sound_line, sound_state}
 use Rattle.gt_history.specs.Runs.{KeepsPast}
 use Rattle.gt_history.proofs.Safe.{same_ok}
 use Rattle.gt_history.proofs.Runs as runs
 use Rattle.gt_base.specs.Recovery.{recover, Keeps, counters}
-use Rattle.gt_base.specs.Ledger.{Stored}
+use Rattle.gt_base.specs.Ledger.{Ledger, StoredBy, Stored, state_of}
 use Rattle.gt_base.specs.Histories.{IsGood, Gives, Holds, IsHistory}
-use Rattle.gt_base.proofs.Images.{recovered_legal, stored_gives}
+use Rattle.gt_base.proofs.Images.{recovered_legal, stored_gives, by_stored}
 use Rattle.gt_part.specs.Mounts.{Mounts}
 use Rattle.gt_part.specs.Shown.{Shown, memory, Stands, HasRun, Continues, OneOpening, faults_in}
 
@@ -40,6 +44,23 @@ continues view start begin history P later old p limits this past run = record {
   holds = subst (λ (l : Limits). Holds l start begin (later ++ history) (view p.disk)) limits (holds_now p.limits start begin (later ++ history) (view p.disk) p.trail run.1);
   good = subst (λ (l : Limits). IsGood l (now (view p.disk))) limits (good_now p.limits start begin (later ++ history) (view p.disk) p.trail run.1);
 }
+
+-- the files have the log that is in memory, and its contents are sound
+module _ {D : Type 0} (view : D → View) (start : State) (begin : ℕ) (history : List Happening) (p : Shown D) (run : HasRun view start begin history p) where
+  pub run_stored : StoredBy p.limits p.ledger (now (view p.disk))
+  run_stored = by_stored p.limits p.ledger p.live (now (view p.disk)) (subst (λ (s : State). Stored p.limits s (now (view p.disk))) (sym run.0) run.1.stored)
+
+  pub run_sound : IsSoundState (opening (unapplied p.ledger.log))
+  run_sound =
+      let sound : IsSoundState (memory p) = subst IsSoundState (sym run.0) (runs.going_sound (recover p.limits) Keeps counters (recovered_legal p.limits) (Stored p.limits) (stored_gives p.limits) p.limits start begin history (view p.disk) p.trail run.1) in
+      sound_state (opening (unapplied p.ledger.log)) (log_sound nothing p.ledger.log p.ledger.doubt (sound_line (memory p) sound))
+
+  pub run_few : p.limits.positions < 2 ^ 64 → length p.ledger.log < 2 ^ 64
+  run_few most = by p.ledger.log p.ledger.doubt run_stored.within
+    where
+      by : (log : List Entry) (doubt : Option Entry) → length (with_doubt log doubt) ≤ p.limits.positions → length log < 2 ^ 64
+      by log None le = omega (arith, le, most)
+      by log (Some e) le = omega (arith, le, most, length-append log (e ∷ []))
 
 -- ---- openings
 
@@ -118,3 +139,14 @@ pub counts_more : (first before now : ℕ) (trail new : List Turn) (turn : Turn)
     → (first + faults_in trail ≤ before) ⊎ (2 ^ 64 - 1 ≤ before) → (first + faults_in new ≤ now) ⊎ (2 ^ 64 - 1 ≤ now)
 counts_more first before now trail new turn is later rose counts =
     subst (λ (n : ℕ). (first + n ≤ now) ⊎ (2 ^ 64 - 1 ≤ now)) (sym (ap faults_in is ∙ faults_push trail turn)) (counts_by (is_faulty turn.answer) first before now (faults_in trail) later rose counts)
+
+-- ---- the first opening
+
+pub opened_stands : (l : Ledger) (pins : List Pin) → l.doubt ≡ None → pins ≡ [] → state_of l pins ≡ opening (unapplied l.log)
+opened_stands l pins clear empty = λ i. record (opening (unapplied l.log)) { doubt = clear i; pins = empty i }
+
+pub first_run : (limits : Limits) (x : View) (l : Ledger) (pins : List Pin) (trail : List Turn) → l.doubt ≡ None → pins ≡ [] → trail ≡ [] → Stored limits (opening (unapplied l.log)) (now x) → IsSoundState (opening (unapplied l.log)) → IsHistory limits (state_of l pins) x.clock [] x trail
+first_run limits x l pins trail clear empty fresh stored sound =
+    subst (λ (t : List Turn). IsHistory limits (state_of l pins) x.clock [] x t) (sym fresh)
+    (subst (λ (s : State). IsHistory limits s x.clock [] x []) (sym (opened_stands l pins clear empty))
+    (runs.first_opened (recover limits) Keeps counters (recovered_legal limits) (Stored limits) (stored_gives limits) limits x (unapplied l.log) stored sound))

@@ -1,18 +1,21 @@
 -- The parts of a step: what is in doubt is settled, and then the event acts.
-use Rattle.std.proofs.Common.{◌≡◌, inl, inr, ℕ, ◌+◌, ◌≤◌, Bool, true, false, cond, not, nat_le, is_some, ◌&&◌, IsTrue, List, length, Option, Some, None, Result, Ok, Err, refl, sym, ◌∙◌, ap, subst, arith}
-use Rattle.std.specs.Option.{option_map}
+use Rattle.std.proofs.Common.{◌≡◌, inl, inr, ℕ, ◌+◌, ◌≤◌, Bool, true, false, cond, not, nat_le, nat_eq, find, is_some, ◌&&◌, IsTrue, List, [], ◌∷◌, length, Option, Some, None, Result, Ok, Err, refl, sym, ◌∙◌, ap, subst, arith}
+use Rattle.std.specs.Option.{option_map, unwrap_or}
 use Rattle.gt_disk.specs.Files.{States, View, now, Quiet}
 use Rattle.gt_model.specs.declared.change.Change.{Change}
 use Rattle.gt_model.specs.declared.change.Change.TheVariants.{Create as CreateChange, Delete as DeleteChange}
 use Rattle.gt_model.specs.declared.done.Done.{Done}
-use Rattle.gt_model.specs.declared.done.Done.TheVariants.{Created, Deleted}
+use Rattle.gt_model.specs.declared.done.Done.TheVariants.{Created, Deleted, Committed, Finished}
+use Rattle.gt_model.specs.declared.added.Added.{Added}
+use Rattle.gt_model.specs.declared.update.RefUpdate.{RefUpdate}
+use Rattle.gt_model.specs.Verdicts.{verdict}
 use Rattle.gt_model.specs.declared.entry.Entry.{Entry}
 use Rattle.gt_model.specs.declared.event.Event.{Event}
-use Rattle.gt_model.specs.declared.event.Event.TheVariants.{Create, Delete}
+use Rattle.gt_model.specs.declared.event.Event.TheVariants.{Create, Delete, Commit}
 use Rattle.gt_model.specs.declared.limits.Limits.{Limits}
 use Rattle.gt_model.specs.declared.refusal.Refusal.{Refusal}
 use Rattle.gt_model.specs.declared.refusal.Refusal.TheVariants.{Memory, DeviceFault, RepositoryExists, NoRepository, PoolInUse, LogFull}
-use Rattle.gt_model.specs.Machine.{State, Pin, front, content, is_full, next_entry, with_entry, with_pins, refuses, adds, unless, is_asked, settles, settles_turn, after_fault, RunsOut, Ends, Acts, SettledEntry, SettledTurn, Step}
+use Rattle.gt_model.specs.Machine.{State, Pin, reading, pin_of, released, is_live_as, is_transaction, is_empty, committed, answers, front, content, is_full, next_entry, with_entry, with_pins, refuses, adds, unless, is_asked, settles, settles_turn, after_fault, RunsOut, Ends, Acts, SettledEntry, SettledTurn, Step}
 use Rattle.gt_model.specs.Contents.{nothing, after_all, has_repo, least_member}
 use Rattle.gt_history.proofs.Moves as moves
 use Rattle.gt_base.specs.Ledger.{Ledger, StoredBy, Stored, state_of}
@@ -117,3 +120,47 @@ deletion_acts limits l m pins position copy path copied there unused room at is 
     by None none here =
         chosen (state_of l pins) (state_of m pins) (not (has_repo (content (state_of l pins)) path)) (is_full limits (state_of l pins)) NoRepository LogFull (next_entry (state_of l pins) path DeleteChange) (Deleted (front (state_of l pins) + 1)) pins (Ok (Deleted position)) (ap not there) (not_full limits l pins room)
         (ap (λ (n : ℕ). Ok (Deleted n)) here) (entry_at l m pins pins position copy path DeleteChange at copied is)
+
+-- ---- what is live
+
+pub found_pin : (l : Ledger) (pins : List Pin) (number : ℕ) (p : Pin) → find (λ (q : Pin). nat_eq q.number number) pins ≡ Some p → pin_of (state_of l pins) number ≡ p
+found_pin l pins number p is = ap (λ (o : Option Pin). unwrap_or o (reading number 0 [])) is
+
+pub released_state : (l : Ledger) (pins new : List Pin) (number : ℕ) → new ≡ released pins number → state_of l new ≡ with_pins (state_of l pins) (released pins number)
+released_state l pins new number is = λ i. state_of l (is i)
+
+-- ending one lengthens nothing
+pub fewer_released : (pins : List Pin) (number : ℕ) → length (released pins number) ≤ length pins
+fewer_released [] number = omega arith
+fewer_released (p ∷ ps) number = by (not (nat_eq p.number number)) (fewer_released ps number)
+  where
+    by : (b : Bool) → length (released ps number) ≤ length ps → length (cond b (p ∷ released ps number) (released ps number)) ≤ length (p ∷ ps)
+    by true le = omega (arith, le)
+    by false le = omega (arith, le)
+
+pub fewer_by : (pins new : List Pin) (number : ℕ) → new ≡ released pins number → length new ≤ length pins
+fewer_by pins new number is = omega (arith, ap (λ (pins : List Pin). length pins) is, fewer_released pins number)
+
+-- ---- a commit
+
+-- the entry of a good commit is added, and its transaction is gone
+pub write_adds : (l m : Ledger) (pins after : List Pin) (entry : Entry) (number : ℕ) (answer : Result Done Refusal) → answer ≡ Ok (Committed entry.position) → after ≡ released pins number
+    → state_of m after ≡ with_pins (with_entry (state_of l pins) entry) after → Ends (adds entry (Committed entry.position) (released pins number)) (state_of l pins) answer (state_of m after)
+write_adds l m pins after entry number answer said gone is = inl (said, is ∙ (λ i. with_pins (with_entry (state_of l pins) entry) (gone i)))
+
+pub nothing_staged : (refs : List RefUpdate) (records : List Added) → refs ≡ [] → records ≡ [] → is_empty refs records ≡ true
+nothing_staged refs records empty none = λ i. is_empty (empty i) (none i)
+
+-- a transaction that has staged nothing ends
+pub finish_steps : (limits : Limits) (l m : Ledger) (pins after : List Pin) (number : ℕ) (refs : List RefUpdate) (records : List Added) (answer : Result Done Refusal) → is_live_as is_transaction pins number ≡ true → is_empty refs records ≡ true
+    → answer ≡ Ok (Finished (pin_of (state_of l pins) number).position) → m.log ≡ l.log → m.doubt ≡ l.doubt → after ≡ released pins number → Step limits (state_of l pins) (Commit number refs records) answer (state_of m after)
+finish_steps limits l m pins after number refs records answer live none said log_is doubt_is gone =
+    let s : State = state_of l pins in
+    at_once limits (Commit number refs records) s (state_of m after) answer live (ap not none) refl (inl (by (is_empty refs records) none))
+  where
+    by : (b : Bool) → b ≡ true → Ends (cond b (answers (Finished (pin_of (state_of l pins) number).position) (released pins number)) (committed limits (state_of l pins) number (record { refs = refs; records = records }) (verdict (content (state_of l pins)) (pin_of (state_of l pins) number).path (record { refs = refs; records = records })))) (state_of l pins) answer (state_of m after)
+    by true is = (said, λ i. state_of (record { log = log_is i; doubt = doubt_is i }) (gone i))
+    by false is = absurd (cc is)
+
+pub some_staged : (refs : List RefUpdate) (records : List Added) → (is_empty refs records ≡ false) → settles (Commit 0 refs records) ≡ true
+some_staged refs records some = ap not some

@@ -39,6 +39,8 @@ pub(crate) fn commit<D: Disk>(
     ensures counted { D.call_count disk.new ≤ D.call_count disk.old + settling_calls book.old.journal.doubt + 4 }
     ensures moves { IsTrue D.tells → Moves limits.now (state_of book.old) (state_of book.new) (D.view disk.old) (D.view disk.new) }
 {
+    // a law, which does nothing
+    book.live.are_transactions();
     if stage.is_empty() {
         return Reply::of(finish(book, pin));
     }

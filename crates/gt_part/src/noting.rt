@@ -8,6 +8,7 @@ use gt_model::{Answer, Event, Trail, Turn, Who};
 /// Takes room for this many records, and for the end of each live transaction.
 pub(crate) fn take_room(trail: &mut Trail, live: usize, count: usize) -> Result<(), NoMemory>
     ensures same { trail.new.turns.0 ≡ trail.old.turns.0 }
+    ensures opening { trail.new.opening ≡ trail.old.opening }
     ensures ok { OnOk result (live + count ≤ trail.new.turns.1) }
     ensures kept { trail.old.turns.1 ≤ trail.new.turns.1 }
 {
@@ -22,6 +23,7 @@ pub(crate) fn note(trail: &mut Trail, tick: u64, who: Who, event: Event, reply: 
     requires { 0 < trail.old.turns.1 }
     ensures answer { result ≡ reply.answer }
     ensures turns { trail.new.turns.0 ≡ trail.old.turns.0 ++ turn_of who event reply.kept tick ∷ [] }
+    ensures opening { trail.new.opening ≡ trail.old.opening }
     ensures room { trail.old.turns.1 ≤ trail.new.turns.1 + 1 }
 {
     trail.turns.add(Turn {

@@ -1,8 +1,8 @@
 ghost use Rattle.std.specs.Prelude.{◌≡◌, ◌≤◌, ◌++◌, ℕ, [], ◌∷◌, List, length, IsTrue, IfOk, IfErr};
 ghost use Rattle.gt_disk.specs.Files.{Rose, now};
 ghost use Rattle.gt_disk.specs.Moments.{Since, Narrows};
-ghost use Rattle.gt_model.specs.Machine.{State, Settles, is_live};
-ghost use Rattle.gt_model.specs.Histories.{Happening, last_state};
+ghost use Rattle.gt_model.specs.Machine.{State, Settles, content, is_live};
+ghost use Rattle.gt_model.specs.Histories.{Happening, all_refs, last_state};
 ghost use Rattle.gt_base.specs.Recovery.{recover};
 ghost use Rattle.gt_base.specs.Histories.{IsGood, Holds};
 ghost use Rattle.gt_part.specs.Mounts.{Mounts, HasMountCause};
@@ -11,8 +11,8 @@ ghost use Rattle.gt_part.specs.Shown.{memory, Counts, HasRun, Continues, OneOpen
 use crate::book::Book;
 use gt_base::Journal;
 use gt_disk::Disk;
-use gt_list::{ListOf, Roomy};
-use gt_log::MountError;
+use gt_list::Roomy;
+use gt_log::{MountCause, MountError};
 use gt_model::{Limits, Trail};
 use gt_pins::{Live, Pin};
 use std::alloc::Global;
@@ -58,9 +58,12 @@ impl<D: Disk + Drop> Partition<D> {
         ensures answer { IsTrue D.tells → Mounts (recover limits (D.view disk).reads) result }
         ensures kept { IfOk result (λ p. (p.number ≡ number) × (p.limits ≡ limits)) }
         ensures empty { IfOk result (λ p. p.trail ≡ []) }
+
+        // The trail has the references of what is opened.
+        ensures opening { IfOk result (λ p. p.opening ≡ all_refs (content (memory p))) }
         ensures faults { IfOk result (λ p. Counts D.fault_count (D.fault_count p.disk) p) }
         ensures fault { IfErr result (HasMountCause D.fault_count disk) }
-        ensures later { IfOk result (λ p. D.fault_count disk ≤ D.fault_count p.disk) }
+        ensures sure { IfOk result (λ p. D.fault_count p.disk ≡ D.fault_count disk) }
 
         // At no moment can a stop leave what it couldn't leave before.
         ensures moments { IsTrue D.tells → IfOk result (λ p. Narrows (D.view disk) (D.view p.disk)) }
@@ -77,19 +80,25 @@ impl<D: Disk + Drop> Partition<D> {
     {
         let mut disk = disk;
         match Journal::open(alloc, &limits, &mut disk) {
-            Ok(journal) => Ok(Partition {
-                number,
-                disk,
-                limits,
-                book: Book {
-                    journal,
-                    live: Live::new(alloc),
-                },
-                trail: Trail {
-                    turns: Roomy::new(alloc),
-                    opening: ListOf::new(alloc),
-                },
-            }),
+            Ok(journal) => match journal.table().all_refs(alloc) {
+                Ok(opening) => Ok(Partition {
+                    number,
+                    disk,
+                    limits,
+                    book: Book {
+                        journal,
+                        live: Live::new(alloc),
+                    },
+                    trail: Trail {
+                        turns: Roomy::new(alloc),
+                        opening,
+                    },
+                }),
+                Err(_) => Err(MountError {
+                    cause: MountCause::Memory,
+                    disk,
+                }),
+            },
             Err(cause) => Err(MountError { cause, disk }),
         }
     }
@@ -107,11 +116,12 @@ impl<D: Disk + Drop> Partition<D> {
         ensures in_vain { IsTrue D.tells → (start : State) (begin : ℕ) (history : List Happening) → HasRun D.view start begin history self → IfErr result (λ e. Holds self.limits start begin history (D.view e.disk)) }
         ensures kept { IfOk result (λ p. (p.number ≡ self.number) × (p.limits ≡ self.limits)) }
         ensures answer { IsTrue D.tells → Mounts (recover self.limits (D.view self.disk).reads) result }
-        ensures later { IfOk result (λ p. D.fault_count self.disk ≤ D.fault_count p.disk) }
+        ensures sure { IfOk result (λ p. D.fault_count p.disk ≡ D.fault_count self.disk) }
         ensures fault { IfErr result (HasMountCause D.fault_count self.disk) }
         ensures moments_in_vain { IsTrue D.tells → IfErr result (λ e. Narrows (D.view self.disk) (D.view e.disk)) }
         ensures reads_in_vain { IsTrue D.tells → IfErr result (λ e. (D.view e.disk).reads ≡ (D.view self.disk).reads) }
         ensures empty { IfOk result (λ p. p.trail ≡ []) }
+        ensures opening { IfOk result (λ p. p.opening ≡ all_refs (content (memory p))) }
         ensures settles { IsTrue D.tells → (start : State) (begin : ℕ) (history : List Happening) → HasRun D.view start begin history self → IfOk result (λ p. Settles (last_state start history) (memory p)) }
         ensures run { IsTrue D.tells → (start : State) (begin : ℕ) (history : List Happening) → HasRun D.view start begin history self
             → IfOk result (λ p. Continues D.view start begin history (OneOpening (D.view p.disk).clock (memory p)) self p) }

@@ -166,6 +166,8 @@ impl<D: Disk + Drop> Partition<D> {
         requires { is_live (pins_of self.old) pin.now ≡ true }
         ensures called { Called D.tells D.view D.fault_count D.call_count who (Asked.Commit pin.now stage.now.staged.refs stage.now.staged.records) result self.old self.new }
     {
+        // a law, which does nothing, as in `commit_noted`
+        self.book.live.are_transactions();
         let (Ok(refs), Ok(records)) = (stage.refs(alloc), stage.records(alloc)) else {
             return Err(Refusal::Memory);
         };
@@ -187,6 +189,7 @@ impl<D: Disk + Drop> Partition<D> {
         ensures called { Called D.tells D.view D.fault_count D.call_count who (Asked.Commit pin.now stage.now.staged.refs stage.now.staged.records) result self.old self.new }
     {
         law_stage(stage);
+        self.book.live.are_transactions();
         if let Err(_) = take_room(&mut self.trail, self.book.live.len(), 1) {
             return Err(Refusal::Memory);
         }

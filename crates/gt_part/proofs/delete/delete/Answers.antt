@@ -6,7 +6,7 @@ use Rattle.gt_part.proofs.Stepping.{then_acts, settling_moves, settled_moves}
 use Rattle.gt_part.proofs.delete.delete.Goals as goal
 
 pub invariant_of-book : goal.invariant_of-book
-invariant_of-book g c = (reads_later (length c.args.book.now.journal.log) _ c.args.book.now.live c.settle.ensures.longer c.args.book.now.reads, tt)
+invariant_of-book g c = record { reads = reads_later (length c.args.book.now.journal.log) _ c.args.book.now.live c.settle.ensures.longer c.args.book.now.reads }
 
 pub returns-in-Err-clause-moves : goal.returns-in-Err-clause-moves
 returns-in-Err-clause-moves g c told = settling_moves c.args.limits.now (state_of c.args.book.now) _ _ _ (c.settle.ensures.moves told c.args.limits.now _ _)

@@ -4,7 +4,7 @@ use Rattle.gt_part.proofs.Stepping.{deletion_acts}
 use Rattle.gt_part.proofs.delete.delete_unused.Goals as goal
 
 pub invariant_of-book : goal.invariant_of-book
-invariant_of-book g c = (reads_later (length c.args.book.now.journal.log) _ c.args.book.now.live c.add.ensures.longer c.args.book.now.reads, tt)
+invariant_of-book g c = record { reads = reads_later (length c.args.book.now.journal.log) _ c.args.book.now.live c.add.ensures.longer c.args.book.now.reads }
 
 pub returns-in-Ok-add-clause-moves : goal.returns-in-Ok-add-clause-moves
 returns-in-Ok-add-clause-moves g c told = c.add.ensures.moves told c.args.book.now.live c.args.book.now.live

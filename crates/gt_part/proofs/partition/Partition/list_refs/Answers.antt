@@ -1,0 +1,20 @@
+use Rattle.std.proofs.Common.{◌≡◌, refl, ap, ◌∙◌, arith}
+use Rattle.std.proofs.Common.{List}
+use Rattle.gt_model.specs.Machine.{Pin, is_live}
+use Rattle.gt_part.specs.Shown.{Shown}
+use Rattle.gt_model.specs.declared.event.Event.TheVariants.{ListRefs}
+use Rattle.gt_part.proofs.Stepping.{moves_pins}
+use Rattle.gt_part.proofs.Calling.{called, not_called, same_called, sure_cause}
+use Rattle.gt_part.proofs.partition.Partition.list_refs.Goals as goal
+
+pub returns-in_default-clause-called : goal.returns-in_default-clause-called
+returns-in_default-clause-called g c = same_called _ _ _ _ _ _ _ c.requires refl
+
+pub returns-in-Err-clause-called : goal.returns-in-Err-clause-called
+returns-in-Err-clause-called g c = rw (← c.self.view_is) (not_called _ _ _ _ _ _ _ _ _ c.take_room.ensures.opening c.take_room.ensures.same (ap (λ (pins : List Pin). is_live pins c.args.pin.now) (ap (λ (s : Shown _). s.live) c.self.view_is) ∙ c.requires) refl)
+
+pub returns-clause-called : goal.returns-clause-called
+returns-clause-called g c = rw (← c.self.view_is) (
+    let e = c.list_refs-reply.ensures in
+    let asked : ListRefs c.number.result c.from_vec.result ≡ ListRefs c.args.pin.now c.args.prefix.now = cc (c.number.ensures, c.from_vec.ensures, c.in-Ok.ensures.items) in
+    called _ _ _ _ _ _ _ _ _ _ _ _ _ _ asked c.note.ensures.answer e.kept c.tick-tick.ensures refl refl (c.note.ensures.opening ∙ c.take_room.ensures.opening) c.take_room.ensures.same c.note.ensures.turns tt e.step (sure_cause _ _ e.sure) (omega arith) (λ told. moves_pins _ _ _ _ _ _ refl refl))

@@ -1,0 +1,14 @@
+use Rattle.std.proofs.Common.{refl}
+use Rattle.gt_part.proofs.Histories.{opened_stands, first_run}
+use Rattle.gt_part.proofs.partition.Partition.mount.Goals as goal
+
+pub returns-in-Ok-all_refs-clause-answer : goal.returns-in-Ok-all_refs-clause-answer
+returns-in-Ok-all_refs-clause-answer g c told =
+    let opened = c.in-Ok.ensures.answer told in
+    (_, opened.0, opened_stands c.in-Ok.journal _ opened.1 c.new.ensures)
+
+pub returns-in-Ok-all_refs-clause-run : goal.returns-in-Ok-all_refs-clause-run
+returns-in-Ok-all_refs-clause-run g c told good =
+    let opened = c.in-Ok.ensures.answer told in
+    let there = c.in-Ok.ensures.stored told good in
+    (refl, first_run c.args.limits _ c.in-Ok.journal _ _ opened.1 c.new.ensures c.new-in-Ok-all_refs.ensures there.0 there.1)
