@@ -10,11 +10,12 @@ use Rattle.gt_model.specs.declared.limits.Limits.{Limits}
 use Rattle.gt_model.specs.declared.refusal.Refusal.{Refusal}
 use Rattle.gt_model.specs.declared.who.Who.{Who}
 use Rattle.gt_model.specs.Histories.{state, position, last_state}
-use Rattle.gt_model.specs.Machine.{State, Step, PinsRead, sure, front, line}
-use Rattle.gt_model.proofs.Steps.{step_grows, opening_grows, line_longer}
-use Rattle.gt_part.specs.Crash.{Holds}
-use Rattle.gt_part.specs.Recovery.{recover}
-use Rattle.gt_part.specs.Stored.{Gives}
+use Rattle.gt_model.specs.Machine.{State, Recovered, Step, IsInOrder, MayRecover, opening, front}
+use Rattle.gt_model.proofs.Steps.{step_grows, step_acked, grown_longer}
+use Rattle.gt_model.proofs.Openings.{opening_order, opening_part}
+use Rattle.gt_history.proofs.Parts.{recovered_long}
+use Rattle.gt_base.specs.Histories.{Gives, Holds}
+use Rattle.gt_base.specs.Recovery.{recover}
 use Rattle.gt_script.specs.declared.form.Form.{Form}
 use Rattle.gt_script.specs.declared.form.Form.TheVariants.{Restart}
 use Rattle.gt_session.specs.Sessions.{Session}
@@ -22,10 +23,10 @@ use Rattle.gt_prog.specs.Lines.{Line, Past, Stand, Happened, Restarts, Asked, Li
 use Rattle.gt_prog.specs.Replay.{KeepsAnswers}
 use Rattle.gt_prog.proofs.Faultless.{requests_keeps, requests_names, give_up_keeps}
 
--- its history has come to its state, and what is live there reads the log
+-- its history has come to its state, which is in order
 pub record IsPast (start : State) (p : Past) : Type 0 where
   pub leads : last_state start p.happened ≡ p.state
-  pub reads : PinsRead p.state
+  pub order : IsInOrder p.state
 
 -- a past that goes on, whose log grows
 abbrev GoesOn : State → Past → Past → Type 0
@@ -37,19 +38,19 @@ module _ (limits : Limits) (start : State) where
 
   happened_on : (who : Who) (e : Event) (a : Result Done Refusal) (p q : Past) → Happened limits who e a p q → GoesOn start p q
   happened_on who e a p q (step, inl told) is =
-      let g = step_grows limits p.state e a q.state is.reads step in
-      (record { leads = ap (last_state start) told.1; reads = g.reads }, g.log)
+      let g = step_grows limits p.state e a q.state is.order step in
+      (record { leads = ap (last_state start) told.1; order = g.order }, grown_longer p.state q.state g)
   happened_on who e a p q (step, inr none) is = same_past p q none.1 is
 
   happened_names : (who : Who) (e : Event) (a : Result Done Refusal) (p q : Past) → Happened limits who e a p q → IsPast start p → position a ≤ front q.state
-  happened_names who e a p q h is = (step_grows limits p.state e a q.state is.reads h.0).acked
+  happened_names who e a p q h is = step_acked limits p.state e a q.state is.order h.0
 
   -- ---- one line
 
   restarts_on : (l : Line) (old new : Stand) → Restarts l old new → GoesOn start old.past new.past
   restarts_on l old new r is =
-      let g = opening_grows old.past.state new.past.state r.settles in
-      (record { leads = ap (last_state start) r.happened; reads = g.0 }, g.1)
+      let g = opening_part old.past.state new.past.state is.order r.settles in
+      (record { leads = ap (last_state start) r.happened; order = g.0 }, g.1.longer)
 
   line_on : (form : Form) (l : Line) (old new : Stand) → LineBy limits form l old new → GoesOn start old.past new.past
   line_on Restart l old new h = restarts_on l old new h
@@ -82,16 +83,13 @@ module _ (limits : Limits) (start : State) where
 
   -- ---- on the disk
 
-  image_named : (s : State) (v : View) (image : Files) (lines : List Line) → Gives limits s (now v) image → AreNamed (front s) lines → (log : List Entry) × (recover limits image ≡ Ok log) × AreNamed (length log) lines
-  image_named s v image lines gives named = ⊎_elim
-      (λ out. (s.log, out.0, named))
-      (λ in_. (line s, in_.0, still_named (front s) (length (line s)) lines (line_longer s) named))
-      gives
+  image_named : (s : State) (v : View) (image : Files) (lines : List Line) → IsInOrder s → Gives limits s (now v) image → AreNamed (front s) lines → (r : Recovered) × (recover limits image ≡ Ok r) × AreNamed (front (opening r)) lines
+  image_named s v image lines order (r, is, may, keeps) named = (r, is, still_named (front s) (front (opening r)) lines (recovered_long s r order may) named)
 
   pub answers_kept : (begin : ℕ) (p : Past) (v : View) (lines : List Line) → Holds limits start begin p.happened v → IsPast start p → AreNamed (front p.state) lines → KeepsAnswers limits v lines
   answers_kept begin p v lines holds is named image im =
-      image_named p.state v image lines (subst (λ (s : State). Gives limits s (now v) image) is.leads (holds.ends image im)) named
+      image_named p.state v image lines is.order (subst (λ (s : State). Gives limits s (now v) image) is.leads (holds.ends.gives image im)) named
 
 -- where a history begins
-pub begins : (log : List Entry) → IsPast (sure log) (record { state = sure log; happened = [] })
-begins log = record { leads = refl; reads = tt }
+pub begins : (r : Recovered) → IsPast (opening r) (record { state = opening r; happened = [] })
+begins r = record { leads = refl; order = opening_order r }

@@ -11,19 +11,19 @@ use Rattle.gt_session.specs.Sessions.{Session}
 use Rattle.gt_session.specs.Together.{Requests, GiveUp}
 use Rattle.gt_prog.proofs.Faultless.{requests_keeps, requests_rises, give_up_keeps}
 
-module _ {D : Type 0} (tells : Bool) (view : D → View) (fault_count : D → ℕ) where
-  module _ (pin number session : ℕ) (form : Form) (answer : Result Done Refusal) (olds news : List Session) (old new : Shown D) (h : Requests (Called tells view fault_count) pin number session form answer olds news old new) where
+module _ {D : Type 0} (tells : Bool) (view : D → View) (fault_count call_count : D → ℕ) where
+  module _ (pin number session : ℕ) (form : Form) (answer : Result Done Refusal) (olds news : List Session) (old new : Shown D) (h : Requests (Called tells view fault_count call_count) pin number session form answer olds news old new) where
     pub asked_limits : new.limits ≡ old.limits
-    asked_limits = requests_keeps (Called tells view fault_count) old new (new.limits ≡ old.limits) (λ same. ap (λ (p : Shown D). p.limits) same) (λ who e a call. call.limits) pin number session form answer olds news h
+    asked_limits = requests_keeps (Called tells view fault_count call_count) old new (new.limits ≡ old.limits) (λ same. ap (λ (p : Shown D). p.limits) same) (λ who e a call. call.limits) pin number session form answer olds news h
 
     pub asked_later : fault_count old.disk ≤ fault_count new.disk
     asked_later =
-        requests_keeps (Called tells view fault_count) old new (fault_count old.disk ≤ fault_count new.disk) (λ same. let is : fault_count new.disk ≡ fault_count old.disk = ap (λ (p : Shown D). fault_count p.disk) same in omega (arith, is)) (λ who e a call. call.later) pin number session form
+        requests_keeps (Called tells view fault_count call_count) old new (fault_count old.disk ≤ fault_count new.disk) (λ same. let is : fault_count new.disk ≡ fault_count old.disk = ap (λ (p : Shown D). fault_count p.disk) same in omega (arith, is)) (λ who e a call. call.cause.later) pin number session form
         answer olds news h
 
     pub asked_fault : IsTrue (is_faulty answer) → Rose (fault_count old.disk) (fault_count new.disk)
-    asked_fault faulty = requests_rises (Called tells view fault_count) old new (Rose (fault_count old.disk) (fault_count new.disk)) (λ who e a call is. call.fault is) pin number session form answer olds news h faulty
+    asked_fault faulty = requests_rises (Called tells view fault_count call_count) old new (Rose (fault_count old.disk) (fault_count new.disk)) (λ who e a call is. call.cause.fault is) pin number session form answer olds news h faulty
 
-  pub ended_later : (ss : List Session) (old new : Shown D) → GiveUp (Called tells view fault_count) ss old new → fault_count old.disk ≤ fault_count new.disk
+  pub ended_later : (ss : List Session) (old new : Shown D) → GiveUp (Called tells view fault_count call_count) ss old new → fault_count old.disk ≤ fault_count new.disk
   ended_later ss old new h =
-      give_up_keeps (Called tells view fault_count) (λ p q. fault_count p.disk ≤ fault_count q.disk) (λ p. omega arith) (λ p q r first then. omega (arith, first, then)) (λ who e a p q call. call.later) ss old new h
+      give_up_keeps (Called tells view fault_count call_count) (λ p q. fault_count p.disk ≤ fault_count q.disk) (λ p. omega arith) (λ p q r first then. omega (arith, first, then)) (λ who e a p q call. call.cause.later) ss old new h

@@ -9,7 +9,7 @@ use Rattle.gt_prog.specs.declared.playing.PlayCause.TheVariants.{Write, Device, 
 use Rattle.gt_script.specs.declared.request.Request.{Request}
 use Rattle.gt_prog.specs.declared.status.Status.{Status}
 use Rattle.gt_prog.specs.declared.status.Status.TheVariants.{Done, Usage, ReadFault, WriteFault, DiskFault, Damaged, Memory, BadInput, NotYet}
-use Rattle.gt_part.specs.Recovery.{IsGood}
+use Rattle.gt_base.specs.Histories.{IsGood}
 use Rattle.gt_prog.specs.Replay.{ReplayedPart}
 use Rattle.gt_prog.specs.Statuses.{Asks, IsUntouched, IsDone, IsCutShort, IsBroken, WorkEnds, status_of_play}
 
@@ -55,10 +55,10 @@ module _ (tells : Bool) (limits : Limits) (requests : List Request) (old new : V
   -- ---- the disk may be handed in again
 
   part_good : (cause : PlayCause) → IsTrue tells → IsGood limits (now old) → Part cause → IsGood limits (now new)
-  part_good cause told good part = let w = part.worked told good in w.holds.good new.clock w.opening.passed (omega arith)
+  part_good cause told good part = let w = part.worked told good in w.holds.good new.clock w.opened.passed (omega arith)
 
   pub good_again : (status : Status) → WorkEnds tells limits requests old new before after written out status → IsTrue tells → IsGood limits (now old) → IsGood limits (now new)
-  good_again Done ends told good = let w = ends.worked told good in w.holds.good new.clock w.opening.passed (omega arith)
+  good_again Done ends told good = let w = ends.worked told good in w.holds.good new.clock w.opened.passed (omega arith)
   good_again Usage ends told good = absurd ends
   good_again ReadFault ends told good = absurd ends
   good_again WriteFault ends told good = part_good Write told good ends

@@ -13,11 +13,11 @@ use Rattle.gt_model.specs.declared.limits.Limits.{Limits}
 use Rattle.gt_model.specs.declared.refusal.Refusal.{Refusal}
 use Rattle.gt_model.specs.declared.refusal.Refusal.TheVariants.{RepositoryGone, ReferenceConflict, DirectoryConflict, MissingObject, Unsure, Behind, PinsFull, NoRepository}
 use Rattle.gt_model.specs.Contents.{has_repo}
-use Rattle.gt_model.specs.Machine.{Pin, State, Effect, Step, Acts, Ends, MayStop, answers, refuses, first_refusal, front, content, free_number, is_live, released, with_log}
+use Rattle.gt_model.specs.Machine.{Pin, State, Effect, Step, Acts, Ends, Fails, SettledEntry, effect, reading, answers, refuses, first_refusal, front, content, free_number, is_live, released}
 use Rattle.gt_part.specs.Live as part
 use Rattle.gt_part.specs.Live.{GivesPin, EndsBy}
-use Rattle.gt_part.specs.Shown.{Shown}
-use Rattle.gt_part.proofs.Pins.{free_number_free}
+use Rattle.gt_part.specs.Shown.{Shown, memory}
+use Rattle.gt_pins.proofs.Numbers.{free_number_free}
 use Rattle.gt_session.specs.Courses.{ends}
 use Rattle.gt_session.specs.Calls.{without, Gives, GivesPass}
 
@@ -63,12 +63,6 @@ abbrev Begins : List Pin → Result Done Refusal → List Pin → Type 0
 Begins old (Ok done) new = numbers new ≡ numbers old ++ free_number old ∷ []
 Begins old (Err refusal) new = new ≡ old
 
-may_stop : (e : Event) (a : Result Done Refusal) (old new : List Pin) → MayStop e a → new ≡ old → Begins old a new
-may_stop e (Err refusal) old new may same = same
-may_stop e (Ok d) old new (inl h) same = absurd (cc (h.1))
-may_stop e (Ok d) old new (inr (inl h)) same = absurd (cc (h.1))
-may_stop e (Ok d) old new (inr (inr h)) same = absurd (cc (h.3))
-
 refused_pins : (pins : List Pin) (rs : List (Bool × Refusal)) (effect : Effect) (s : State) (a : Result Done Refusal) (new : State) → pins ≡ s.pins → (Ends effect s a new → Begins s.pins a new.pins) → Ends (first_refusal pins rs effect) s a new → Begins s.pins a new.pins
 refused_pins pins [] effect s a new same ok h = ok h
 refused_pins pins (r ∷ rs) effect s a new same ok h = by (λ e. refused_pins pins rs effect s a new same ok e) r.0 h
@@ -77,17 +71,37 @@ refused_pins pins (r ∷ rs) effect s a new same ok h = by (λ e. refused_pins p
     by rest true e = subst (λ (x : Result Done Refusal). Begins s.pins x new.pins) (sym e.0) (ap (λ (t : State). t.pins) e.1 ∙ same)
     by rest false e = rest e
 
+abbrev causes : Limits → State → List ℕ → ℕ → List (Bool × Refusal)
+causes limits s path seen = (nat_lt (front s) seen, Behind seen (front s)) ∷ (nat_le limits.pins (length s.pins), PinsFull) ∷ (not (has_repo (content s) path), NoRepository) ∷ []
+
+never_fails : (limits : Limits) (path : List ℕ) (seen : ℕ) (s new : State) (after : List Pin) (rs : List (Bool × Refusal)) → Fails (Begin path seen) (first_refusal s.pins rs (answers (Begun (front s)) after)) s new → ⊥
+never_fails limits path seen s new after [] (object, same) = absurd (cc object)
+never_fails limits path seen s new after (r ∷ rs) fails = by (λ f. never_fails limits path seen s new after rs f) r.0 fails
+  where
+    by : (Fails (Begin path seen) (first_refusal s.pins rs (answers (Begun (front s)) after)) s new → ⊥) → (b : Bool) → Fails (Begin path seen) (cond b (refuses r.1 s.pins) (first_refusal s.pins rs (answers (Begun (front s)) after))) s new → ⊥
+    by rest true f = f
+    by rest false f = rest f
+
 begun_pins : (limits : Limits) (s : State) (path : List ℕ) (seen : ℕ) (a : Result Done Refusal) (new : State) → Acts limits s (Begin path seen) a new → Begins s.pins a new.pins
-begun_pins limits s path seen a new (inr h) = may_stop (Begin path seen) a s.pins new.pins h.0 (ap (λ (t : State). t.pins) h.1)
+begun_pins limits s path seen a new (inr (inl (said, fails))) = absurd (never_fails limits path seen s new (s.pins ++ reading (free_number s.pins) (front s) path ∷ []) (causes limits s path seen) fails)
+begun_pins limits s path seen a new (inr (inr (said, same))) = subst (λ (x : Result Done Refusal). Begins s.pins x new.pins) (sym said) (ap (λ (t : State). t.pins) same)
 begun_pins limits s path seen a new (inl h) =
-    let begun : Pin = record { number = free_number s.pins; position = front s; path = path } in
-    refused_pins s.pins ((nat_lt (front s) seen, Behind seen (front s)) ∷ (nat_le limits.pins (length s.pins), PinsFull) ∷ (not (has_repo (content s.log) path), NoRepository) ∷ []) (answers (Begun (front s)) (s.pins ++ begun ∷ [])) s a new refl
+    let begun : Pin = reading (free_number s.pins) (front s) path in
+    refused_pins s.pins (causes limits s path seen) (answers (Begun (front s)) (s.pins ++ begun ∷ [])) s a new refl
     (λ e. subst (λ (x : Result Done Refusal). Begins s.pins x new.pins) (sym e.0) (ap (λ (t : State). numbers t.pins) e.1 ∙ map-append (λ (p : Pin). p.number) s.pins (begun ∷ [])))
     h
 
 begins : (limits : Limits) (s : State) (path : List ℕ) (seen : ℕ) (a : Result Done Refusal) (new : State) → Step limits s (Begin path seen) a new → Begins s.pins a new.pins
-begins limits s path seen a new (inl h) = begun_pins limits (with_log s h.0) path seen a new h.2
-begins limits s path seen a new (inr h) = may_stop (Begin path seen) a s.pins new.pins h.0 (ap (λ (t : State). t.pins) h.1)
+begins limits s path seen a new (asked, inl (mid, (entry, one, two), acts)) =
+    let same : mid.pins ≡ s.pins = ap (λ (t : State). t.pins) two ∙ entry_pins one in
+    subst (λ (pins : List Pin). Begins pins a new.pins) same (begun_pins limits mid path seen a new acts)
+  where
+    entry_pins : SettledEntry true s entry → entry.pins ≡ s.pins
+    entry_pins (inl is) = ap (λ (t : State). t.pins) is
+    entry_pins (inr is) = ap (λ (t : State). t.pins) is
+begins limits s path seen a new (asked, inr (inl (said, inl (doubt, same)))) = subst (λ (x : Result Done Refusal). Begins s.pins x new.pins) (sym said) (ap (λ (t : State). t.pins) same)
+begins limits s path seen a new (asked, inr (inl (said, inr (never, one)))) = absurd (cc never)
+begins limits s path seen a new (asked, inr (inr (said, same))) = subst (λ (x : Result Done Refusal). Begins s.pins x new.pins) (sym said) (ap (λ (t : State). t.pins) same)
 
 pub begun_pass : (limits : Limits) (s : State) (path : List ℕ) (seen : ℕ) (a : Result Done Refusal) (new : State) (pass : Option ℕ) → Step limits s (Begin path seen) a new → GivesPin a pass (free_number s.pins)
     → GivesPass a (option_map (λ n. n) pass) (free_number s.pins) (numbers s.pins) (numbers new.pins)
@@ -137,24 +151,24 @@ module _ (a : Result Done Refusal) (before pass : Option ℕ) (old new : List Pi
 -- ---- the partition inside, which is seen as this one
 
 module _ {D : Type 0} (inside seen : Shown D) (is : inside ≡ seen) where
-  pub held_live : (n : ℕ) → IsAmong (numbers seen.state.pins) n → is_live inside.state.pins n ≡ true
-  held_live n among = among_live inside.state.pins n (subst (λ (p : Shown D). IsAmong (numbers p.state.pins) n) (sym is) among)
+  pub held_live : (n : ℕ) → IsAmong (numbers seen.live) n → is_live inside.live n ≡ true
+  held_live n among = among_live inside.live n (subst (λ (p : Shown D). IsAmong (numbers p.live) n) (sym is) among)
 
-  pub held_some : (pass : Option ℕ) → IfSome pass (λ n. IsAmong (numbers seen.state.pins) n) → IfSome pass (λ n. is_live inside.state.pins n ≡ true)
+  pub held_some : (pass : Option ℕ) → IfSome pass (λ n. IsAmong (numbers seen.live) n) → IfSome pass (λ n. is_live inside.live n ≡ true)
   held_some None h = tt
   held_some (Some n) h = held_live n h
 
-  pub gone_seen : (new : List Pin) (n : ℕ) → new ≡ released inside.state.pins n → numbers new ≡ without (numbers seen.state.pins) n
-  gone_seen new n same = gone_numbers seen.state.pins new n (subst (λ (p : Shown D). new ≡ released p.state.pins n) is same)
+  pub gone_seen : (new : List Pin) (n : ℕ) → new ≡ released inside.live n → numbers new ≡ without (numbers seen.live) n
+  gone_seen new n same = gone_numbers seen.live new n (subst (λ (p : Shown D). new ≡ released p.live n) is same)
 
-  pub begun_seen : (limits : Limits) (path : List ℕ) (seen_position : ℕ) (a : Result Done Refusal) (new : State) (pass : Option ℕ) → Step limits inside.state (Begin path seen_position) a new → GivesPin a pass (free_number inside.state.pins)
-      → GivesPass a (option_map (λ n. n) pass) (free_number seen.state.pins) (numbers seen.state.pins) (numbers new.pins)
+  pub begun_seen : (limits : Limits) (path : List ℕ) (seen_position : ℕ) (a : Result Done Refusal) (new : State) (pass : Option ℕ) → Step limits (memory inside) (Begin path seen_position) a new → GivesPin a pass (free_number inside.live)
+      → GivesPass a (option_map (λ n. n) pass) (free_number seen.live) (numbers seen.live) (numbers new.pins)
   begun_seen limits path seen_position a new pass step gives =
-      subst (λ (p : Shown D). GivesPass a (option_map (λ n. n) pass) (free_number p.state.pins) (numbers p.state.pins) (numbers new.pins)) is (begun_pass limits inside.state path seen_position a new pass step gives)
+      subst (λ (p : Shown D). GivesPass a (option_map (λ n. n) pass) (free_number p.live) (numbers p.live) (numbers new.pins)) is (begun_pass limits (memory inside) path seen_position a new pass step gives)
 
-  module _ (a : Result Done Refusal) (before pass : Option ℕ) (new : List Pin) (by_part : IfSome before (λ n. EndsBy a n pass inside.state.pins new)) (some : before ≡ None → ⊥) where
-    pub ended_seen : ends a ≡ true → (pass ≡ None) × IfSome before (λ n. numbers new ≡ without (numbers seen.state.pins) n)
-    ended_seen e = pass_ended a before pass seen.state.pins new (subst (λ (p : Shown D). IfSome before (λ n. EndsBy a n pass p.state.pins new)) is by_part) some e
+  module _ (a : Result Done Refusal) (before pass : Option ℕ) (new : List Pin) (by_part : IfSome before (λ n. EndsBy a n pass inside.live new)) (some : before ≡ None → ⊥) where
+    pub ended_seen : ends a ≡ true → (pass ≡ None) × IfSome before (λ n. numbers new ≡ without (numbers seen.live) n)
+    ended_seen e = pass_ended a before pass seen.live new (subst (λ (p : Shown D). IfSome before (λ n. EndsBy a n pass p.live new)) is by_part) some e
 
-    pub stays_seen : ends a ≡ false → (pass ≡ before) × (numbers new ≡ numbers seen.state.pins)
-    stays_seen e = pass_stays a before pass seen.state.pins new (subst (λ (p : Shown D). IfSome before (λ n. EndsBy a n pass p.state.pins new)) is by_part) some e
+    pub stays_seen : ends a ≡ false → (pass ≡ before) × (numbers new ≡ numbers seen.live)
+    stays_seen e = pass_stays a before pass seen.live new (subst (λ (p : Shown D). IfSome before (λ n. EndsBy a n pass p.live new)) is by_part) some e

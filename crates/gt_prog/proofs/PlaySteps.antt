@@ -9,18 +9,20 @@ use Rattle.gt_disk.specs.Files.{Files, States, View, now, IsImage, Rose}
 use Rattle.gt_disk.specs.Moments.{Narrows}
 use Rattle.gt_model.specs.declared.done.Done.{Done}
 use Rattle.gt_model.specs.declared.done.Done.TheVariants.{Restarted}
-use Rattle.gt_model.specs.declared.entry.Entry.{Entry}
 use Rattle.gt_model.specs.declared.limits.Limits.{Limits}
 use Rattle.gt_model.specs.declared.refusal.Refusal.{Refusal}
-use Rattle.gt_model.specs.Machine.{State, Settles, sure, front, free_number, is_faulty}
-use Rattle.gt_model.specs.Histories.{Happening}
+use Rattle.gt_model.specs.Machine.{State, Recovered, Settles, opening, front, free_number, is_faulty}
+use Rattle.gt_model.specs.Histories.{Happening, last_state}
 use Rattle.gt_outside.specs.Written.{AppendsAll, AppendsFront}
 use Rattle.gt_part.specs.Called.{Called}
-use Rattle.gt_part.specs.Recovery.{recover, IsGood}
-use Rattle.gt_part.specs.Crash.{Holds}
+use Rattle.gt_base.specs.Recovery.{recover}
+use Rattle.gt_base.specs.Histories.{IsGood}
+use Rattle.gt_base.specs.Histories.{Holds}
 use Rattle.gt_part.specs.Mounts.{Mounts}
-use Rattle.gt_part.specs.Shown.{Shown, HasRun, KeepsPast, Continues, OneOpening}
-use Rattle.gt_part.proofs.Histories.{continues, continues_on, past_same, past_join}
+use Rattle.gt_history.specs.Runs.{KeepsPast}
+use Rattle.gt_part.specs.Shown.{memory, Shown, HasRun, Continues, OneOpening}
+use Rattle.gt_history.proofs.Runs.{past_same, past_join}
+use Rattle.gt_part.proofs.Histories.{continues, continues_on}
 use Rattle.gt_script.specs.declared.form.Form.{Form}
 use Rattle.gt_script.specs.declared.form.Form.TheVariants.{Restart}
 use Rattle.gt_script.specs.declared.request.Request.{Request}
@@ -102,39 +104,39 @@ module _ {D : Type 0} (tells : Bool) (view : D → View) (limits : Limits) where
   -- ---- one after the other
 
   pub goes_none : (ss : List Session) (p : Shown D) → Goes tells view limits [] ss ss p p
-  goes_none ss p told start begin history run = continues view start begin history (λ later. AreLines limits [] (from_here ss p.state) (standing ss (past_of p.state later))) [] p p refl refl (past_same (view p.disk)) run
+  goes_none ss p told start begin history run = continues view start begin history (λ later. AreLines limits [] (from_here ss (memory p)) (standing ss (past_of (memory p) later))) [] p p refl refl (past_same (view p.disk)) run
 
   pub goes_then : (first mid last : List Session) (o p q : Shown D) (one two : List Line) → Goes tells view limits one first mid o p → Goes tells view limits two mid last p q → Goes tells view limits (one ++ two) first last o q
   goes_then first mid last o p q one two before after told start begin history run =
-      continues_on view start begin history (λ later. AreLines limits one (from_here first o.state) (standing mid (past_of p.state later))) (λ later. AreLines limits two (from_here mid p.state) (standing last (past_of q.state later)))
-      (λ later. AreLines limits (one ++ two) (from_here first o.state) (standing last (past_of q.state later))) o p q (before told start begin history run) (λ older run'. after told start begin older run')
-      (λ a b did more. lines_then limits one two (from_here first o.state) (standing mid (past_of p.state a)) (standing last (past_of q.state (b ++ a))) did (lines_over limits a two (from_here mid p.state) (standing last (past_of q.state b)) more))
+      continues_on view start begin history (λ later. AreLines limits one (from_here first (memory o)) (standing mid (past_of (memory p) later))) (λ later. AreLines limits two (from_here mid (memory p)) (standing last (past_of (memory q) later)))
+      (λ later. AreLines limits (one ++ two) (from_here first (memory o)) (standing last (past_of (memory q) later))) o p q (before told start begin history run) (λ older run'. after told start begin older run')
+      (λ a b did more. lines_then limits one two (from_here first (memory o)) (standing mid (past_of (memory p) a)) (standing last (past_of (memory q) (b ++ a))) did (lines_over limits a two (from_here mid (memory p)) (standing last (past_of (memory q) b)) more))
 
   -- ---- one line
 
   -- a session asks
-  pub goes_asked : (fault_count : D → ℕ) (line : Line) (first last : List Session) (o p : Shown D) → o.limits ≡ limits → has_course line.request.form ≡ true
-      → Requests (Called tells view fault_count) (free_number o.state.pins) line.number line.request.session line.request.form line.answer first last o p → Goes tells view limits (line ∷ []) first last o p
-  goes_asked fault_count line first last o p kept course h told start begin history run =
-      told_as tells view fault_count limits told start begin history (λ later. Asked limits line (from_here first o.state) (standing last (past_of p.state later))) (λ later. AreLines limits (line ∷ []) (from_here first o.state) (standing last (past_of p.state later))) o p
-      (requests_went tells view fault_count limits told start begin history o p kept run (free_number o.state.pins) line.number line.request.session line.request.form line.answer first last h)
-      (λ later is. line_more limits line (from_here first o.state) (standing last (past_of p.state later)) (course_line limits line.request.form line (from_here first o.state) (standing last (past_of p.state later)) course is))
+  pub goes_asked : (fault_count call_count : D → ℕ) (line : Line) (first last : List Session) (o p : Shown D) → o.limits ≡ limits → has_course line.request.form ≡ true
+      → Requests (Called tells view fault_count call_count) (free_number o.live) line.number line.request.session line.request.form line.answer first last o p → Goes tells view limits (line ∷ []) first last o p
+  goes_asked fault_count call_count line first last o p kept course h told start begin history run =
+      told_as tells view fault_count call_count limits told start begin history (λ later. Asked limits line (from_here first (memory o)) (standing last (past_of (memory p) later))) (λ later. AreLines limits (line ∷ []) (from_here first (memory o)) (standing last (past_of (memory p) later))) o p
+      (requests_went tells view fault_count call_count limits told start begin history o p kept run (free_number o.live) line.number line.request.session line.request.form line.answer first last h)
+      (λ later is. line_more limits line (from_here first (memory o)) (standing last (past_of (memory p) later)) (course_line limits line.request.form line (from_here first (memory o)) (standing last (past_of (memory p) later)) course is))
 
   -- everything is mounted again
   pub goes_restarted : (fault_count : D → ℕ) (line : Line) (first last : List Session) (o p : Shown D) → line.request.form ≡ Restart → line.answer ≡ Ok Restarted → last ≡ map forgotten first
-      → (IsTrue tells → (start : State) (begin : ℕ) (history : List Happening) → HasRun view start begin history o → Settles o.state p.state)
-      → (IsTrue tells → (start : State) (begin : ℕ) (history : List Happening) → HasRun view start begin history o → Continues view start begin history (OneOpening (view p.disk).clock p.state) o p) → Goes tells view limits (line ∷ []) first last o p
+      → (IsTrue tells → (start : State) (begin : ℕ) (history : List Happening) → HasRun view start begin history o → Settles (last_state start history) (memory p))
+      → (IsTrue tells → (start : State) (begin : ℕ) (history : List Happening) → HasRun view start begin history o → Continues view start begin history (OneOpening (view p.disk).clock (memory p)) o p) → Goes tells view limits (line ∷ []) first last o p
   goes_restarted fault_count line first last o p form answer forgets settles goes told start begin history run =
-      told_as tells view fault_count limits told start begin history (OneOpening (view p.disk).clock p.state) (λ later. AreLines limits (line ∷ []) (from_here first o.state) (standing last (past_of p.state later))) o p (goes told start begin history run)
+      told_as tells view fault_count fault_count limits told start begin history (OneOpening (view p.disk).clock (memory p)) (λ later. AreLines limits (line ∷ []) (from_here first (memory o)) (standing last (past_of (memory p) later))) o p (goes told start begin history run)
       (λ later is.
-      let r : Restarts line (from_here first o.state) (standing last (past_of p.state later)) = record { answer = answer; sessions = forgets; settles = settles told start begin history run; tick = (view p.disk).clock; happened = is } in
-      line_more limits line (from_here first o.state) (standing last (past_of p.state later)) (subst (λ (f : Form). LineBy limits f line (from_here first o.state) (standing last (past_of p.state later))) (sym form) r))
+      let r : Restarts line (from_here first (memory o)) (standing last (past_of (memory p) later)) = record { answer = answer; sessions = forgets; settles = subst (λ (s : State). Settles s (memory p)) (sym run.0) (settles told start begin history run); tick = (view p.disk).clock; happened = is } in
+      line_more limits line (from_here first (memory o)) (standing last (past_of (memory p) later)) (subst (λ (f : Form). LineBy limits f line (from_here first (memory o)) (standing last (past_of (memory p) later))) (sym form) r))
 
 module _ {D : Type 0} (tells : Bool) (view : D → View) (fault_count : D → ℕ) where
   -- ---- what the lines made, on the disk
 
   pub went_of : (last : List Session) (o p : Shown D) (lines : List Line) → Goes tells view o.limits lines new_sessions last o p → IsTrue tells → (start : State) (begin : ℕ) (history : List Happening) → HasRun view start begin history o → Went view start begin history o (view p.disk) lines
-  went_of last o p lines goes told start begin history run = let c = goes told start begin history run in record { stand = standing last (past_of p.state c.later); did = c.this; past = c.past; holds = c.holds }
+  went_of last o p lines goes told start begin history run = let c = goes told start begin history run in record { stand = standing last (past_of (memory p) c.later); did = c.this; past = c.past; holds = c.holds }
 
   -- the disk went on by itself
   went_on : (last : List Session) (o p : Shown D) (end : View) (lines : List Line) → Goes tells view o.limits lines new_sessions last o p → (IsTrue tells → KeepsPast (view p.disk) end)
@@ -143,7 +145,7 @@ module _ {D : Type 0} (tells : Bool) (view : D → View) (fault_count : D → �
   went_on last o p end lines goes past holds told start begin history run =
       let c = goes told start begin history run in
       record {
-        stand = standing last (past_of p.state c.later);
+        stand = standing last (past_of (memory p) c.later);
         did = c.this;
         past = past_join (view o.disk) (view p.disk) end c.past (past told);
         holds = subst (λ (l : Limits). Holds l start begin (c.later ++ history) end) c.limits (holds told start begin (c.later ++ history) c.run);
@@ -261,17 +263,17 @@ module _ {D : Type 0} (tells : Bool) (view : D → View) (fault_count : D → �
   }
 
   -- each session gave up what it had open, at the end of the input
-  pub played_whole : (ss : List Session) (o p q : Shown D) (requests : List Request) (w v : Option (List ℕ)) → Played tells view fault_count requests ss o p w v → GiveUp (Called tells view fault_count) ss p q → fault_count p.disk ≤ fault_count q.disk → PlayedWhole tells view fault_count requests o q w v
-  played_whole ss o p q requests w v played ends later = record {
+  pub played_whole : (call_count : D → ℕ) (ss : List Session) (o p q : Shown D) (requests : List Request) (w v : Option (List ℕ)) → Played tells view fault_count requests ss o p w v → GiveUp (Called tells view fault_count call_count) ss p q → fault_count p.disk ≤ fault_count q.disk → PlayedWhole tells view fault_count requests o q w v
+  played_whole call_count ss o p q requests w v played ends later = record {
     lines = played.lines;
     asked = played.asked;
     bytes = played.bytes;
     counted = counted_later (fault_count o.disk) (fault_count p.disk) (fault_count q.disk) played.lines later played.counted;
     goes = λ told start begin history run.
         let c = played.goes told start begin history run in
-        continues_on view start begin history (λ later. AreLines o.limits played.lines (from_here new_sessions o.state) (standing ss (past_of p.state later))) (λ later. GiveUp (Happened o.limits) ss (past_of p.state []) (past_of q.state later))
-        (IsWhole o.limits played.lines o.state q.state) o p q c (λ older run'. give_up_went tells view fault_count o.limits told start begin ss older p q c.limits run' ends)
-        (λ a b did more. record { stand = standing ss (past_of p.state a); did = did; ends = end_over o.limits a (standing ss (past_of p.state [])) (past_of q.state b) more });
+        continues_on view start begin history (λ later. AreLines o.limits played.lines (from_here new_sessions (memory o)) (standing ss (past_of (memory p) later))) (λ later. GiveUp (Happened o.limits) ss (past_of (memory p) []) (past_of (memory q) later))
+        (IsWhole o.limits played.lines (memory o) (memory q)) o p q c (λ older run'. give_up_went tells view fault_count call_count o.limits told start begin ss older p q c.limits run' ends)
+        (λ a b did more. record { stand = standing ss (past_of (memory p) a); did = did; ends = end_over o.limits a (standing ss (past_of (memory p) [])) (past_of (memory q) b) more });
   }
 
 -- the same damage under the same limits
@@ -282,7 +284,7 @@ damage_kept {D = D} view old new d e file at limits same is = ap (λ (x : D). re
 
 -- what holds on a disk isn't damaged
 recovers_still : (limits : Limits) (start : State) (begin : ℕ) (history : List Happening) (v : View) → IsImage (now v) v.reads → Holds limits start begin history v → (file : FileId) (at : ℕ) → recover limits v.reads ≡ Err (file, at) → ⊥
-recovers_still limits start begin history v shows holds file at bad = ⊎_elim (λ out. absurd (cc (out.0, bad))) (λ in_. absurd (cc (in_.0, bad))) (holds.ends v.reads shows)
+recovers_still limits start begin history v shows holds file at bad = let gives = holds.ends.gives v.reads shows in absurd (cc (gives.1, bad))
 
 opening_moments : (old mid new : View) → Narrows old mid → KeepsPast mid new → (m : ℕ) → old.clock ≤ m → m ≤ mid.clock → (image : Files) → IsImage (new.at m) image → IsImage (now old) image
 opening_moments old mid new narrows past m ge le image is =
@@ -292,58 +294,61 @@ opening_moments old mid new narrows past m ge le image is =
     (λ not. let same : m ≡ old.clock = omega (arith, not, ge) in subst (λ (s : States). IsImage s image) (ap (λ (k : ℕ). mid.at k) same ∙ narrows.past old.clock (omega arith)) here)
     (cases_lt old.clock m)
 
-is_opened : (limits : Limits) (old mid end : View) (log : List Entry) → recover limits old.reads ≡ Ok log → Narrows old mid → KeepsPast mid end → IsOpened limits old end log mid.clock
-is_opened limits old mid end log recovers narrows past = record { opens = recovers; later = narrows.later; passed = past.clock; moments = opening_moments old mid end narrows past }
+is_opened : (limits : Limits) (old mid end : View) (r : Recovered) → recover limits old.reads ≡ Ok r → Narrows old mid → KeepsPast mid end → IsOpened limits old end r mid.clock
+is_opened limits old mid end r recovers narrows past = record { opens = recovers; later = narrows.later; passed = past.clock; moments = opening_moments old mid end narrows past }
 
-holds_as : {D : Type 0} (view : D → View) (limits : Limits) (p : Shown D) (end : View) (happened : List Happening) (log : List Entry) → p.state ≡ sure log → p.limits ≡ limits → Holds p.limits p.state (view p.disk).clock (happened ++ []) end
-    → Holds limits (sure log) (view p.disk).clock happened end
-holds_as view limits p end happened log state_is limits_is holds =
+holds_as : {D : Type 0} (view : D → View) (limits : Limits) (p : Shown D) (end : View) (happened : List Happening) (r : Recovered) → (memory p) ≡ opening r → p.limits ≡ limits → Holds p.limits (memory p) (view p.disk).clock (happened ++ []) end
+    → Holds limits (opening r) (view p.disk).clock happened end
+holds_as view limits p end happened r state_is limits_is holds =
     let begin = (view p.disk).clock in
-    subst (λ (h : List Happening). Holds limits (sure log) begin h end) (append-nil happened)
-    (subst (λ (s : State). Holds limits s begin (happened ++ []) end) state_is (subst (λ (l : Limits). Holds l p.state begin (happened ++ []) end) limits_is holds))
+    subst (λ (h : List Happening). Holds limits (opening r) begin h end) (append-nil happened)
+    (subst (λ (s : State). Holds limits s begin (happened ++ []) end) state_is (subst (λ (l : Limits). Holds l (memory p) begin (happened ++ []) end) limits_is holds))
 
-module _ {D : Type 0} (view : D → View) (limits : Limits) (old : View) (p : Shown D) (lines : List Line) (log : List Entry) (recovers : recover limits old.reads ≡ Ok log) (state_is : p.state ≡ sure log) (limits_is : p.limits ≡ limits) (narrows : Narrows old (view p.disk)) where
-  lines_as : (stand : Stand) → AreLines p.limits lines (from_here new_sessions p.state) stand → AreLines limits lines (from_here new_sessions (sure log)) stand
-  lines_as stand did = subst (λ (s : State). AreLines limits lines (from_here new_sessions s) stand) state_is (subst (λ (l : Limits). AreLines l lines (from_here new_sessions p.state) stand) limits_is did)
+module _ {D : Type 0} (view : D → View) (limits : Limits) (old : View) (p : Shown D) (lines : List Line) (r : Recovered) (recovers : recover limits old.reads ≡ Ok r) (state_is : (memory p) ≡ opening r) (limits_is : p.limits ≡ limits) (narrows : Narrows old (view p.disk)) where
+  lines_as : (stand : Stand) → AreLines p.limits lines (from_here new_sessions (memory p)) stand → AreLines limits lines (from_here new_sessions (opening r)) stand
+  lines_as stand did = subst (λ (s : State). AreLines limits lines (from_here new_sessions s) stand) state_is (subst (λ (l : Limits). AreLines l lines (from_here new_sessions (memory p)) stand) limits_is did)
 
-  pub worked : (q : Shown D) → Continues view p.state (view p.disk).clock [] (IsWhole p.limits lines p.state q.state) p q → Worked limits old (view q.disk) lines
+  pub worked : (q : Shown D) → Continues view (memory p) (view p.disk).clock [] (IsWhole p.limits lines (memory p) (memory q)) p q → Worked limits old (view q.disk) lines
   worked q c =
       let did = lines_as c.this.stand c.this.did in
-      let end : Past = past_of q.state c.later in
+      let end : Past = past_of (memory q) c.later in
       let ends : IsEnd limits c.this.stand end = subst (λ (l : Limits). IsEnd l c.this.stand end) limits_is c.this.ends in
-      let holds = holds_as view limits p (view q.disk) c.later log state_is limits_is c.holds in
-      let named = lines_named limits (sure log) lines (from_here new_sessions (sure log)) c.this.stand did (begins log) in
-      let ended = end_named limits (sure log) c.this.stand end ends named.0 in
+      let holds = holds_as view limits p (view q.disk) c.later r state_is limits_is c.holds in
+      let named = lines_named limits (opening r) lines (from_here new_sessions (opening r)) c.this.stand did (begins r) in
+      let ended = end_named limits (opening r) c.this.stand end ends named.0 in
       record {
-        start = log;
+        start = r;
         begin = (view p.disk).clock;
-        opening = is_opened limits old (view p.disk) (view q.disk) log recovers narrows c.past;
+        opened = is_opened limits old (view p.disk) (view q.disk) r recovers narrows c.past;
         stand = c.this.stand;
         did = did;
         end = end;
         ends = ends;
         holds = holds;
-        keeps = answers_kept limits (sure log) (view p.disk).clock end (view q.disk) lines holds ended.0 (still_named limits (sure log) (front c.this.stand.past.state) (front end.state) lines ended.1 named.2);
+        keeps = answers_kept limits (opening r) (view p.disk).clock end (view q.disk) lines holds ended.0 (still_named limits (opening r) (front c.this.stand.past.state) (front end.state) lines ended.1 named.2);
       }
 
-  pub worked_part : (end : View) → Went view p.state (view p.disk).clock [] p end lines → WorkedPart limits old end lines
+  pub worked_part : (end : View) → Went view (memory p) (view p.disk).clock [] p end lines → WorkedPart limits old end lines
   worked_part end went =
       let did = lines_as went.stand went.did in
-      let holds = holds_as view limits p end went.stand.past.happened log state_is limits_is went.holds in
-      let named = lines_named limits (sure log) lines (from_here new_sessions (sure log)) went.stand did (begins log) in
+      let holds = holds_as view limits p end went.stand.past.happened r state_is limits_is went.holds in
+      let named = lines_named limits (opening r) lines (from_here new_sessions (opening r)) went.stand did (begins r) in
       record {
-        start = log;
+        start = r;
         begin = (view p.disk).clock;
-        opening = is_opened limits old (view p.disk) end log recovers narrows went.past;
+        opened = is_opened limits old (view p.disk) end r recovers narrows went.past;
         stand = went.stand;
         did = did;
         holds = holds;
-        keeps = answers_kept limits (sure log) (view p.disk).clock went.stand.past end lines holds named.0 named.2;
+        keeps = answers_kept limits (opening r) (view p.disk).clock went.stand.past end lines holds named.0 named.2;
       }
 
 -- what a run over a mounted disk says of the disk as it was
 module _ {D : Type 0} (tells : Bool) (view : D → View) (fault_count : D → ℕ) (limits : Limits) (requests : List Request) (disk : D) (p : Shown D) (mounts : IsTrue tells → Mounts (recover limits (view disk).reads) (Ok p)) (kept : p.limits ≡ limits)
-    (narrows : IsTrue tells → Narrows (view disk) (view p.disk)) (run : IsTrue tells → IsGood limits (now (view disk)) → HasRun view p.state (view p.disk).clock [] p) (later : fault_count disk ≤ fault_count p.disk) where
+    (narrows : IsTrue tells → Narrows (view disk) (view p.disk)) (run : IsTrue tells → IsGood limits (now (view disk)) → HasRun view (memory p) (view p.disk).clock [] p) (sure : fault_count p.disk ≡ fault_count disk) where
+  later : fault_count disk ≤ fault_count p.disk
+  later = omega (arith, sure)
+
   pub replayed : (q : Shown D) (d : D) (w v : Option (List ℕ)) → d ≡ q.disk → PlayedWhole tells view fault_count requests p q w v → Replayed tells limits requests (view disk) (view d) (fault_count disk) (fault_count d) w v
   replayed q d w v same played = record {
     lines = played.lines;
@@ -354,7 +359,7 @@ module _ {D : Type 0} (tells : Bool) (view : D → View) (fault_count : D → �
     worked = λ told good.
         let m = mounts told in
         subst (λ (x : D). Worked limits (view disk) (view x) played.lines) (sym same)
-        (worked view limits (view disk) p played.lines m.0 m.1 m.2 kept (narrows told) q (played.goes told p.state (view p.disk).clock [] (run told good)));
+        (worked view limits (view disk) p played.lines m.0 m.1 m.2 kept (narrows told) q (played.goes told (memory p) (view p.disk).clock [] (run told good)));
   }
 
   pub replayed_part : (cause : PlayCause) (end : D) (w v : Option (List ℕ)) → PlayedPart tells view fault_count cause requests p end w v → ReplayedPart tells limits cause requests (view disk) (view end) (fault_count disk) (fault_count end) w v
@@ -372,11 +377,11 @@ module _ {D : Type 0} (tells : Bool) (view : D → View) (fault_count : D → �
     opens = λ told. ((mounts told).0, (mounts told).1);
     worked = λ told good.
         let m = mounts told in
-        worked_part view limits (view disk) p (played.whole ++ played.part) m.0 m.1 m.2 kept (narrows told) (view end) (played.went told p.state (view p.disk).clock [] (run told good));
+        worked_part view limits (view disk) p (played.whole ++ played.part) m.0 m.1 m.2 kept (narrows told) (view end) (played.went told (memory p) (view p.disk).clock [] (run told good));
   }
 
   -- over a disk that may be handed in nothing is found damaged later either
   pub never_damaged : (cause : PlayCause) (end : D) (w v : Option (List ℕ)) (file : FileId) (at : ℕ) → PlayedPart tells view fault_count cause requests p end w v → IsTrue tells → IsGood limits (now (view disk)) → (IsTrue tells → IsImage (now (view end)) (view end).reads) → recover p.limits (view end).reads ≡ Err (file, at) → ⊥
   never_damaged cause end w v file at played told good shows bad =
-      let went = played.went told p.state (view p.disk).clock [] (run told good) in
-      recovers_still p.limits p.state (view p.disk).clock (went.stand.past.happened ++ []) (view end) (shows told) went.holds file at bad
+      let went = played.went told (memory p) (view p.disk).clock [] (run told good) in
+      recovers_still p.limits (memory p) (view p.disk).clock (went.stand.past.happened ++ []) (view end) (shows told) went.holds file at bad

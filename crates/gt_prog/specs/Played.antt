@@ -8,8 +8,9 @@ use Rattle.gt_model.specs.declared.refusal.Refusal.{Refusal}
 use Rattle.gt_model.specs.Machine.{State}
 use Rattle.gt_model.specs.Histories.{Happening}
 use Rattle.gt_outside.specs.Written.{AppendsAll, AppendsFront}
-use Rattle.gt_part.specs.Crash.{Holds}
-use Rattle.gt_part.specs.Shown.{Shown, HasRun, Continues, KeepsPast}
+use Rattle.gt_base.specs.Histories.{Holds}
+use Rattle.gt_history.specs.Runs.{KeepsPast}
+use Rattle.gt_part.specs.Shown.{memory, Shown, HasRun, Continues}
 use Rattle.gt_script.specs.declared.form.Form.TheVariants.{Restart}
 use Rattle.gt_script.specs.declared.request.Request.{Request}
 use Rattle.gt_session.specs.Sessions.{Session}
@@ -21,7 +22,7 @@ use Rattle.gt_prog.specs.Lines.{Line, Stand, past_of, standing, from_here, new_s
 abbrev pub Goes : {D : Type 0} → Bool → (D → View) → Limits → List Line → List Session → List Session → Shown D → Shown D → Type 0
 Goes tells view limits lines first last old new =
     IsTrue tells → (start : State) (begin : ℕ) (history : List Happening) → HasRun view start begin history old
-    → Continues view start begin history (λ later. AreLines limits lines (from_here first old.state) (standing last (past_of new.state later))) old new
+    → Continues view start begin history (λ later. AreLines limits lines (from_here first (memory old)) (standing last (past_of (memory new) later))) old new
 
 -- This request of the line of this number was done, and this is its answer.
 abbrev pub DidOne : {D : Type 0} → Bool → (D → View) → Limits → ℕ → Request → Result Done Refusal → List Session → List Session → Shown D → Shown D → Type 0
@@ -48,12 +49,12 @@ pub record PlayedWhole {D : Type 0} (tells : Bool) (view : D → View) (fault_co
   pub bytes : AppendsAll written out (flat_map printed lines)
   pub counted : Counted 0 (fault_count old.disk) (fault_count new.disk) lines
   pub goes : IsTrue tells → (start : State) (begin : ℕ) (history : List Happening) → HasRun view start begin history old
-      → Continues view start begin history (IsWhole old.limits lines old.state new.state) old new
+      → Continues view start begin history (IsWhole old.limits lines (memory old) (memory new)) old new
 
 -- what these lines made holds on this disk
 pub record Went {D : Type 0} (view : D → View) (start : State) (begin : ℕ) (history : List Happening) (old : Shown D) (end : View) (lines : List Line) : Type 0 where
   pub stand : Stand
-  pub did : AreLines old.limits lines (from_here new_sessions old.state) stand
+  pub did : AreLines old.limits lines (from_here new_sessions (memory old)) stand
   pub past : KeepsPast (view old.disk) end
   pub holds : Holds old.limits start begin (stand.past.happened ++ history) end
 

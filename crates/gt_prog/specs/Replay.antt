@@ -2,54 +2,54 @@
 use Rattle.std.specs.Prelude.{◌≡◌, ℕ, ◌≤◌, Bool, IsTrue, List, ◌++◌, length, map, Option, Ok}
 use Rattle.std.specs.List.{flat_map, AllByRecursion}
 use Rattle.gt_disk.specs.Files.{Files, View, now, IsImage}
-use Rattle.gt_model.specs.declared.entry.Entry.{Entry}
 use Rattle.gt_model.specs.declared.limits.Limits.{Limits}
 use Rattle.gt_model.specs.Histories.{position}
-use Rattle.gt_model.specs.Machine.{sure}
+use Rattle.gt_model.specs.Machine.{Recovered, front, opening}
 use Rattle.gt_outside.specs.Written.{AppendsAll, AppendsFront}
-use Rattle.gt_part.specs.Recovery.{recover, IsGood}
-use Rattle.gt_part.specs.Crash.{Holds}
+use Rattle.gt_base.specs.Recovery.{recover}
+use Rattle.gt_base.specs.Histories.{IsGood}
+use Rattle.gt_base.specs.Histories.{Holds}
 use Rattle.gt_script.specs.declared.request.Request.{Request}
 use Rattle.gt_prog.specs.declared.playing.PlayCause.{PlayCause}
 use Rattle.gt_prog.specs.Played.{EndsAt, own_faults}
 use Rattle.gt_prog.specs.Lines.{Line, Past, Stand, from_here, new_sessions, printed, numbered, asked_by, Counted, AreLines, IsEnd}
 
 -- The disk was opened at this moment with what it recovers to, and until then a stop leaves nothing that it couldn't leave before.
-pub record IsOpened (limits : Limits) (old new : View) (start : List Entry) (begin : ℕ) : Type 0 where
+pub record IsOpened (limits : Limits) (old new : View) (start : Recovered) (begin : ℕ) : Type 0 where
   pub opens : recover limits old.reads ≡ Ok start
   pub later : old.clock ≤ begin
   pub passed : begin ≤ new.clock
   pub moments : (m : ℕ) → old.clock ≤ m → m ≤ begin → (image : Files) → IsImage (new.at m) image → IsImage (now old) image
 
--- Whatever a stop leaves of a disk recovers to a log that has each position that these lines were answered.
+-- Whatever a stop leaves of a disk recovers to what has each position that these lines were answered.
 abbrev pub KeepsAnswers : Limits → View → List Line → Type 0
-KeepsAnswers limits new lines = (image : Files) → IsImage (now new) image → (log : List Entry) × (recover limits image ≡ Ok log) × AllByRecursion (λ line. position line.answer ≤ length log) lines
+KeepsAnswers limits new lines = (image : Files) → IsImage (now new) image → (r : Recovered) × (recover limits image ≡ Ok r) × AllByRecursion (λ line. position line.answer ≤ front (opening r)) lines
 
 -- The work on a disk, to the end of the input: it is opened, new sessions do the lines, and then each gives up what it has open. The disk has what both made.
 pub record Worked (limits : Limits) (old new : View) (lines : List Line) : Type 0 where
-  pub start : List Entry
+  pub start : Recovered
   pub begin : ℕ
-  pub opening : IsOpened limits old new start begin
+  pub opened : IsOpened limits old new start begin
   pub stand : Stand
-  pub did : AreLines limits lines (from_here new_sessions (sure start)) stand
+  pub did : AreLines limits lines (from_here new_sessions (opening start)) stand
   pub end : Past
   pub ends : IsEnd limits stand end
-  pub holds : Holds limits (sure start) begin end.happened new
+  pub holds : Holds limits (opening start) begin end.happened new
   pub keeps : KeepsAnswers limits new lines
 
 -- The work on a disk that was cut short: it is opened, and new sessions do the lines. The disk has what they made.
 pub record WorkedPart (limits : Limits) (old new : View) (lines : List Line) : Type 0 where
-  pub start : List Entry
+  pub start : Recovered
   pub begin : ℕ
-  pub opening : IsOpened limits old new start begin
+  pub opened : IsOpened limits old new start begin
   pub stand : Stand
-  pub did : AreLines limits lines (from_here new_sessions (sure start)) stand
-  pub holds : Holds limits (sure start) begin stand.past.happened new
+  pub did : AreLines limits lines (from_here new_sessions (opening start)) stand
+  pub holds : Holds limits (opening start) begin stand.past.happened new
   pub keeps : KeepsAnswers limits new lines
 
 -- The files recover: no damage is passed over.
 abbrev pub Opens : Limits → View → Type 0
-Opens limits old = (start : List Entry) × (recover limits old.reads ≡ Ok start)
+Opens limits old = (start : Recovered) × (recover limits old.reads ≡ Ok start)
 
 -- These requests were done, and their answers and nothing else were written; the disk's count of faults rose from the one number to the other. A disk that tells recovers as it was handed in. One that may be handed in has come to the end of their run.
 pub record Replayed (tells : Bool) (limits : Limits) (requests : List Request) (old new : View) (before after : ℕ) (written out : Option (List ℕ)) : Type 0 where

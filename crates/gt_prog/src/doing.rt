@@ -5,10 +5,11 @@ ghost use Rattle.gt_disk.specs.declared.file_id.FileId.{FileId};
 ghost use Rattle.gt_log.specs.declared.mount_cause.MountCause.{MountCause};
 ghost use Rattle.gt_model.specs.Machine.{State, is_faulty};
 ghost use Rattle.gt_model.specs.Histories.{Happening};
-ghost use Rattle.gt_part.specs.Crash.{Holds};
+ghost use Rattle.gt_base.specs.Histories.{Holds};
 ghost use Rattle.gt_part.specs.Mounts.{HasMountCause};
-ghost use Rattle.gt_part.specs.Recovery.{recover};
-ghost use Rattle.gt_part.specs.Shown.{HasRun, KeepsPast};
+ghost use Rattle.gt_base.specs.Recovery.{recover};
+ghost use Rattle.gt_history.specs.Runs.{KeepsPast};
+ghost use Rattle.gt_part.specs.Shown.{HasRun};
 ghost use Rattle.gt_prog.specs.Played.{DidOne};
 ghost use Rattle.gt_prog.specs.Script.{HasSession, is_built};
 ghost use Rattle.gt_script.specs.declared.form.Form.TheVariants.{Restart};
@@ -33,9 +34,9 @@ pub(crate) fn play_one<D: Disk + Drop>(
 ) -> Result<(Local<D>, Answer), MountError<D>>
     requires built { is_built request.now.form ≡ true }
     requires session { HasSession request.now }
-    requires held { AreHeld sessions.old (map (λ p. p.number) local.state.pins) }
+    requires held { AreHeld sessions.old (map (λ p. p.number) local.live) }
     ensures did { IfOk result (λ r. DidOne D.tells D.view local.limits line request.now r.1 sessions.old sessions.new local r.0) }
-    ensures held { IfOk result (λ r. AreHeld sessions.new (map (λ p. p.number) r.0.state.pins)) }
+    ensures held { IfOk result (λ r. AreHeld sessions.new (map (λ p. p.number) r.0.live)) }
     ensures limits { IfOk result (λ r. r.0.limits ≡ local.limits) }
     ensures fault { IfOk result (λ r. IsTrue (is_faulty r.1) → Rose (D.fault_count local.disk) (D.fault_count r.0.disk)) }
     ensures later { IfOk result (λ r. D.fault_count local.disk ≤ D.fault_count r.0.disk) }
@@ -73,9 +74,9 @@ fn ask<D: Disk + Drop>(
 ) -> Answer
     requires course { has_course request.now.form ≡ true }
     requires session { HasSession request.now }
-    requires held { AreHeld sessions.old (map (λ p. p.number) local.old.state.pins) }
+    requires held { AreHeld sessions.old (map (λ p. p.number) local.old.live) }
     ensures did { DidOne D.tells D.view local.old.limits line request.now result sessions.old sessions.new local.old local.new }
-    ensures held { AreHeld sessions.new (map (λ p. p.number) local.new.state.pins) }
+    ensures held { AreHeld sessions.new (map (λ p. p.number) local.new.live) }
     ensures limits { local.new.limits ≡ local.old.limits }
     ensures fault { IsTrue (is_faulty result) → Rose (D.fault_count local.old.disk) (D.fault_count local.new.disk) }
     ensures later { D.fault_count local.old.disk ≤ D.fault_count local.new.disk }

@@ -3,7 +3,8 @@ ghost use Rattle.std.specs.Prelude.{◌≡◌};
 use gt_disk::Disk;
 use gt_model::{Answer, Who};
 use gt_name::{Name, RefName, RepoPath};
-use gt_part::{Partition, Pin};
+use gt_part::Partition;
+use gt_pins::Pin;
 use gt_session::Parts;
 use gt_stage::Stage;
 use std::alloc::Global;
@@ -32,11 +33,11 @@ impl<D: Disk + Drop> Parts for Local<D> {
 
     ghost number = { λ pin. pin };
 
-    ghost live = { λ local. map (λ p. p.number) local.state.pins };
+    ghost live = { λ local. map (λ p. p.number) local.live };
 
-    ghost next = { λ local. free_number local.state.pins };
+    ghost next = { λ local. free_number local.live };
 
-    ghost did = { λ who event answer old new. Called D.tells D.view D.fault_count who event answer old new };
+    ghost did = { λ who event answer old new. Called D.tells D.view D.fault_count D.call_count who event answer old new };
 
     fn create(&mut self, alloc: Global, who: Who, path: &RepoPath, pool: bool) -> Answer {
         self.partition.create(alloc, who, path, pool)

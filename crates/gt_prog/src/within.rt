@@ -1,7 +1,7 @@
 ghost use Rattle.std.specs.Prelude.{◌≡◌, ◌≤◌, ℕ, false, IsTrue, Err};
 ghost use Rattle.gt_disk.specs.Files.{Rose};
 ghost use Rattle.gt_disk.specs.declared.file_id.FileId.{FileId};
-ghost use Rattle.gt_part.specs.Recovery.{recover};
+ghost use Rattle.gt_base.specs.Recovery.{recover};
 ghost use Rattle.gt_prog.specs.Statuses.{IsBadAt, IsNotYetAt, IsGoodInput, IsUnderway, RoseEither};
 
 use crate::status::Status;

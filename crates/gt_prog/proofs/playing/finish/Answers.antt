@@ -7,10 +7,10 @@ use Rattle.gt_prog.proofs.playing.finish.Goals as goal
 
 pub returns-clause-ends : goal.returns-clause-ends
 returns-clause-ends g c =
-    let P : Shown _ → Type 0 = λ p. GiveUp (Called g.D.Disk.tells g.D.Disk.view g.D.Disk.fault_count) c.args.sessions c.args.local p in
+    let P : Shown _ → Type 0 = λ p. GiveUp (Called g.D.Disk.tells g.D.Disk.view g.D.Disk.fault_count g.D.Disk.call_count) c.args.sessions c.args.local p in
     subst P (sym c.local.view_is) c.end_all.ensures.ends
 
 pub returns-clause-later : goal.returns-clause-later
 returns-clause-later g c =
     let P : Shown _ → Type 0 = λ p. g.D.Disk.fault_count c.args.local.disk ≤ g.D.Disk.fault_count p.disk in
-    subst P (sym c.local.view_is) (ended_later g.D.Disk.tells g.D.Disk.view g.D.Disk.fault_count c.args.sessions c.args.local c.end_all.new.parts c.end_all.ensures.ends)
+    subst P (sym c.local.view_is) (ended_later g.D.Disk.tells g.D.Disk.view g.D.Disk.fault_count g.D.Disk.call_count c.args.sessions c.args.local c.end_all.new.parts c.end_all.ensures.ends)

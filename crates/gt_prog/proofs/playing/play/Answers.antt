@@ -6,5 +6,5 @@ returns-in-Err-clause-part g c = part_none g.D.Disk.tells g.D.Disk.view g.D.Disk
 
 pub returns-in-Ok-play_lines-clause-played : goal.returns-in-Ok-play_lines-clause-played
 returns-in-Ok-play_lines-clause-played g c =
-    played_whole g.D.Disk.tells g.D.Disk.view g.D.Disk.fault_count c.play_lines.new.sessions c.args.partition c.in-Ok-play_lines.local c.finish.result c.args.requests.now (g.K.Sink.written c.args.sink.now) (g.K.Sink.written c.play_lines.new.sink) c.in-Ok-play_lines.ensures.played
+    played_whole g.D.Disk.tells g.D.Disk.view g.D.Disk.fault_count g.D.Disk.call_count c.play_lines.new.sessions c.args.partition c.in-Ok-play_lines.local c.finish.result c.args.requests.now (g.K.Sink.written c.args.sink.now) (g.K.Sink.written c.play_lines.new.sink) c.in-Ok-play_lines.ensures.played
     c.finish.ensures.ends c.finish.ensures.later

@@ -5,4 +5,4 @@ pub abort-requires : goal.abort-requires
 abort-requires g c = held_live c.self.inside.partition c.args.self.now c.self.view_is c.args.pass c.requires
 
 pub returns-clause-live : goal.returns-clause-live
-returns-clause-live g c = gone_seen c.self.inside.partition c.args.self.now c.self.view_is c.abort.new.self.state.pins c.args.pass c.abort.ensures.pins
+returns-clause-live g c = gone_seen c.self.inside.partition c.args.self.now c.self.view_is c.abort.new.self.live c.args.pass c.abort.ensures.pins

@@ -5,4 +5,4 @@ pub commit-requires-clause-live : goal.commit-requires-clause-live
 commit-requires-clause-live g c = held_some c.self.inside.partition c.args.self.now c.self.view_is c.args.pass.now c.requires.0
 
 pub returns-clause-ended : goal.returns-clause-ended
-returns-clause-ended g c = ended_seen c.self.inside.partition c.args.self.now c.self.view_is c.commit.result c.args.pass.now c.commit.new.pass c.commit.new.self.state.pins c.commit.ensures.ended c.requires.1
+returns-clause-ended g c = ended_seen c.self.inside.partition c.args.self.now c.self.view_is c.commit.result c.args.pass.now c.commit.new.pass c.commit.new.self.live c.commit.ensures.ended c.requires.1
