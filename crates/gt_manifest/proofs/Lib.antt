@@ -3,3 +3,5 @@ pub mod PutLemmas
 pub mod FieldLemmas
 pub mod ManifestLemmas
 pub mod SecondLemmas
+pub mod LooseLemmas
+pub mod FirstLemmas

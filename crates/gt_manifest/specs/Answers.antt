@@ -1,5 +1,5 @@
 -- What the code's answers say of the definitions.
-use Rattle.std.specs.Prelude.{◌≡◌, ℕ, Result, Ok, Err}
+use Rattle.std.specs.Prelude.{◌≡◌, ℕ, Result, Ok, Err, IsOk}
 use Rattle.gt_bytes.specs.declared.error.FieldError.{FieldError}
 use Rattle.gt_bytes.specs.declared.error.FieldError.TheVariants.{BadField, Memory}
 use Rattle.gt_manifest.specs.declared.error.ManifestError.{ManifestError}
@@ -19,3 +19,8 @@ Fails (here.BadManifest at) read = read ≡ Err at
 abbrev pub Reads : {A : Type 0} → Result A ManifestError → Result A ℕ → Type 0
 Reads (Ok x) read = read ≡ Ok x
 Reads (Err e) read = Fails e read
+
+-- Memory ran out only where this is read.
+abbrev pub MemoryAfter : {A B : Type 0} → Result A ManifestError → Result B ℕ → Type 0
+MemoryAfter (Ok x) read = Unit {0}
+MemoryAfter (Err e) read = e ≡ here.Memory → IsOk read

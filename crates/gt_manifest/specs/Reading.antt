@@ -1,7 +1,7 @@
 -- Reading a manifest from left to right.
 use Rattle.std.specs.Prelude.{ℕ, ◌+◌, Bool, true, false, List, length, drop, Option, Some, None, Result, Ok, Err, codes, nat_eq, nat_lt, nat_le, ◌==◌, if◌then◌else◌}
 use Rattle.std.specs.List.{starts_with}
-use Rattle.std.specs.Int.{w64}
+use Rattle.std.specs.Int.{w32, w64}
 use Rattle.gt_bytes.specs.Reading.{◌>>=◌, byte_at, number_at, text_at, counted_at, kept, pair_at, seen_at}
 use Rattle.gt_manifest.specs.declared.manifest.Loose.{Loose}
 use Rattle.gt_manifest.specs.declared.manifest.RepoFiles.{RepoFiles}
@@ -36,6 +36,10 @@ pool_at bytes at = text_at bytes at >>= λ t. pool_of at t.0 t.1
 unfoldable pub number_item : List ℕ → List ℕ → ℕ → Result (ℕ × ℕ) ℕ
 number_item bytes before at = number_at w64 bytes at
 
+-- a good name that is greater than the last one
+abbrev pub next_name : List Loose → List ℕ → Option (List ℕ)
+next_name before t = if above name_of before t then (if good_ref t then Some t else None) else None
+
 abbrev pub to_loose : List ℕ × ℕ → Loose
 to_loose x = record { name = x.0; file = x.1 }
 
@@ -63,6 +67,10 @@ to_repo x = record { path = x.0.0; is_pool = x.0.1.0; pool = x.0.1.1; packs = x.
 unfoldable pub repo_at : Version → ℕ → List ℕ → List RepoFiles → ℕ → Result (RepoFiles × ℕ) ℕ
 repo_at v applied bytes before at = seen_at to_repo (pair_at (owner_at bytes before) (pair_at (files_at bytes) (lasts_at v applied bytes))) at
 
+-- the path of the first repository, the first that takes memory
+abbrev pub first_path : List ℕ → ℕ → Result (List ℕ × ℕ) ℕ
+first_path bytes at = number_at w32 bytes at >>= λ n. if n.0 == 0 then Err n.1 else path_at bytes n.1
+
 -- the next file number is at least 1
 unfoldable pub next_at : List ℕ → ℕ → Result (ℕ × ℕ) ℕ
 next_at bytes at = kept (λ n. nat_le 1 n) at (number_at w64 bytes at)
@@ -76,6 +84,10 @@ version_at bytes at =
     else if starts_with nat_eq (drop at bytes) (codes "GTM1") then Ok (First, at + 4)
     else if starts_with nat_eq (drop at bytes) (codes "GTM2") then Ok (Second, at + 4)
     else Err at
+
+-- all that is read before memory is taken
+abbrev pub front_at : List ℕ → ℕ → Result (List ℕ × ℕ) ℕ
+front_at bytes at = version_at bytes at >>= λ v. head_at bytes v.1 >>= λ h. first_path bytes h.1
 
 abbrev pub to_manifest : (ℕ × (ℕ × ℕ)) × List RepoFiles → Manifest
 to_manifest x = record { epoch = x.0.0; applied = x.0.1.0; next = x.0.1.1; repos = x.1 }

@@ -1,15 +1,13 @@
-ghost use Rattle.std.specs.Prelude.{◌≡◌, ◌≤◌, ◌<◌, ◌^◌, ◌++◌, length, OnOk};
+ghost use Rattle.std.specs.Prelude.{◌≡◌, ◌≤◌, ◌<◌, ◌^◌, ◌++◌, length, OnOk, OnErr, IfOk, IsSome};
 ghost use Rattle.std.specs.Int.{w64, to_be_bytes};
 ghost use Rattle.gt_bytes.specs.Answers.{Gives, Within};
-ghost use Rattle.gt_bytes.specs.Reading.{kept};
 ghost use Rattle.gt_manifest.specs.Spelling.{above, name_of, loose};
-ghost use Rattle.gt_manifest.specs.Reading.{number_item, loose_at, ref_at};
+ghost use Rattle.gt_manifest.specs.Reading.{number_item, next_name, loose_at};
 
-use crate::fields::read_ref;
 use crate::manifest::Loose;
-use gt_bytes::{FieldError, Item, get_u64, put_text, put_u64};
+use gt_bytes::{FieldError, Item, get_text, get_u64, put_text, put_u64};
 use gt_list::NoMemory;
-use gt_name::RefName;
+use gt_name::{NameError, RefName};
 use std::alloc::Global;
 use std::cmp::Ordering;
 
@@ -41,30 +39,28 @@ impl Item for FileNumbers {
     }
 }
 
-fn name_above(before: &[Loose], name: &RefName) -> bool
+fn name_above(before: &[Loose], name: &[u8]) -> bool
     ensures { result ≡ above name_of before.now name.now }
 {
     match before.last() {
         None => true,
-        Some(last) => matches!(last.name.cmp(name), Ordering::Less),
+        Some(last) => matches!(last.name.bytes().cmp(name), Ordering::Less),
     }
 }
 
-fn read_name(
-    alloc: Global,
-    bytes: &[u8],
-    before: &[Loose],
-    at: usize,
-) -> Result<(RefName, usize), FieldError>
-    requires { at ≤ length bytes.now }
-    ensures within { Within result (length bytes.now) }
-    ensures value { Gives result (kept (above name_of before.now) at (ref_at bytes.now at)) }
+/// A good name that is greater than the last one; none where it isn't. It is compared before memory is taken for it.
+fn next_name(alloc: Global, before: &[Loose], text: &[u8]) -> Result<Option<RefName>, NoMemory>
+    ensures found { IfOk result (λ found. found ≡ next_name before.now text.now) }
+    ensures memory { OnErr result (IsSome (next_name before.now text.now)) }
 {
-    let (name, next) = read_ref(alloc, bytes, at)?;
-    if !name_above(before, &name) {
-        return Err(FieldError::BadField { at });
+    if !name_above(before, text) {
+        return Ok(None);
     }
-    Ok((name, next))
+    match RefName::parse(alloc, text) {
+        Ok(name) => Ok(Some(name)),
+        Err(NameError::Memory) => Err(NoMemory),
+        Err(_) => Ok(None),
+    }
 }
 
 /// References with files of their own, ascending by name.
@@ -75,16 +71,27 @@ impl Item for LooseRefs {
 
     ghost item_at = { loose_at };
 
-    #[tactic(auto, unfolding(crate::specs::Reading::loose_at))]
+    #[tactic(auto, using(crate::proofs::LooseLemmas::loose_cut))]
     fn read(
         alloc: Global,
         bytes: &[u8],
         before: &[Loose],
         at: usize,
     ) -> Result<(Loose, usize), FieldError> {
-        let (name, after) = read_name(alloc, bytes, before, at)?;
-        let (file, next) = get_u64(bytes, after)?;
-        Ok((Loose { name, file }, next))
+        let ((begin, end), after) = get_text(bytes, at)?;
+        let file = get_u64(bytes, after);
+        match next_name(alloc, before, &bytes[begin..end]) {
+            Ok(None) => Err(FieldError::BadField { at }),
+            Ok(Some(name)) => {
+                let (file, next) = file?;
+                Ok((Loose { name, file }, next))
+            }
+            // A file number that is cut is told all the same.
+            Err(NoMemory) => {
+                let _ = file?;
+                Err(FieldError::Memory)
+            }
+        }
     }
 
     ghost spell = { loose };

@@ -1,6 +1,6 @@
-ghost use Rattle.std.specs.Prelude.{◌≡◌, ◌+◌, ◌&&◌, Ok, length, bytes_eq};
+ghost use Rattle.std.specs.Prelude.{◌≡◌, ◌≤◌, ◌+◌, ◌&&◌, Ok, OnErr, length, bytes_eq};
 ghost use Rattle.std.specs.List.{list_any};
-ghost use Rattle.gt_bytes.specs.Answers.{Fails};
+ghost use Rattle.gt_bytes.specs.Answers.{Fails, MemoryAfter};
 ghost use Rattle.gt_manifest.specs.Whole.{seen, Goes, past, walk, number_here, packed_here, loose_here, pool_stands, pool_size, pool_here, lasts_size, repo_here, whole};
 
 use crate::manifest::{Loose, Manifest, RepoFiles};
@@ -32,7 +32,8 @@ fn past(gone: Gone, size: usize) -> Result<Gone, FieldError>
 
 /// A file number, which must be from 1 to `next - 1` and new.
 fn number(next: u64, gone: Gone, number: u64) -> Result<Gone, FieldError>
-    ensures { Goes result (number_here next (seen gone) number) }
+    ensures goes { Goes result (number_here next (seen gone) number) }
+    ensures memory { MemoryAfter result (number_here next (seen gone) number) }
 {
     let Gone { mut numbers, at } = gone;
     if number < 1 {
@@ -41,16 +42,19 @@ fn number(next: u64, gone: Gone, number: u64) -> Result<Gone, FieldError>
     if number >= next {
         return Err(FieldError::BadField { at });
     }
+    if numbers.contains(&number) {
+        return Err(FieldError::BadField { at });
+    }
     match numbers.insert(number) {
         Err(_) => Err(FieldError::Memory),
-        Ok(false) => Err(FieldError::BadField { at }),
-        Ok(true) => past(Gone { numbers, at }, 8),
+        Ok(_) => past(Gone { numbers, at }, 8),
     }
 }
 
 /// The packed file, if there is one.
 fn packed(next: u64, gone: Gone, file: u64) -> Result<Gone, FieldError>
-    ensures { Goes result (packed_here next (seen gone) file) }
+    ensures goes { Goes result (packed_here next (seen gone) file) }
+    ensures memory { MemoryAfter result (packed_here next (seen gone) file) }
 {
     if file == 0 {
         past(gone, 8)
@@ -97,7 +101,8 @@ fn is_pool(all: &[RepoFiles], path: &RepoPath) -> bool
 
 /// The pool, if there is one.
 fn pool(all: &[RepoFiles], gone: Gone, repo: &RepoFiles) -> Result<Gone, FieldError>
-    ensures { Goes result (pool_here all.now (seen gone) repo.now) }
+    ensures goes { Goes result (pool_here all.now (seen gone) repo.now) }
+    ensures memory { MemoryAfter result (pool_here all.now (seen gone) repo.now) }
 {
     match &repo.pool {
         None => past(gone, 2),
@@ -149,7 +154,8 @@ pub(crate) fn whole(
     version: Version,
     manifest: &Manifest,
 ) -> Result<Gone, FieldError>
-    ensures { Goes result (whole version manifest.now) }
+    ensures goes { Goes result (whole version manifest.now) }
+    ensures some { OnErr result (1 ≤ length manifest.now.repos) }
 {
     let all = manifest.repos.as_slice();
     let mut gone = Gone {
