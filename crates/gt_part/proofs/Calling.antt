@@ -19,9 +19,11 @@ use Rattle.gt_base.specs.Recovery.{recover, Keeps, counters}
 use Rattle.gt_base.specs.Ledger.{Stored}
 use Rattle.gt_base.specs.Histories.{Moves, IsHistory}
 use Rattle.gt_base.proofs.Images.{recovered_legal, stored_gives}
-use Rattle.gt_part.specs.Called.{Called, Acted, Stepped, CallCause, IsLike, reads_object, settling_calls, own_calls}
+use Rattle.gt_part.specs.Called.{Called, Acted, Stepped, reads_object, own_calls}
+use Rattle.gt_act.specs.Causes.{CallCause, IsLike, settling_calls}
 use Rattle.gt_part.specs.Shown.{Shown, memory, Stands, HasRun, Continues, OneEvent, Records, turn_of}
-use Rattle.gt_part.proofs.Stepping.{stops}
+use Rattle.gt_act.proofs.Causes.{sure_cause}
+use Rattle.gt_act.proofs.Stepping.{stops}
 use Rattle.gt_part.proofs.Histories.{counts_more, continues}
 
 -- a refusal is kept as it is
@@ -63,10 +65,6 @@ kept_done s Sweep done = refl
 kept_faulty : (s : State) (e : Event) (answer : Result Done Refusal) → is_faulty (kept s e answer) ≡ is_faulty answer
 kept_faulty s e (Ok done) = kept_done s e done
 kept_faulty s e (Err refusal) = ap is_faulty (kept_refusal s e refusal)
-
--- what is known not to be a fault isn't one
-pub sure_cause : (n : ℕ) (answer : Result Done Refusal) → is_faulty answer ≡ false → CallCause n n answer
-sure_cause n answer sure = record { later = omega arith; fault = λ is. absurd (cc (sure, is)); sure = λ _. refl }
 
 module _ {D : Type 0} (tells : Bool) (view : D → View) (fault_count call_count : D → ℕ) (who : Who) (e : Event) where
   abbrev CalledSo : Result Done Refusal → Shown D → Shown D → Type 0

@@ -1,26 +1,21 @@
 -- What a call of a partition was.
-use Rattle.std.specs.Prelude.{◌≡◌, ◌⊎◌, ℕ, ◌≤◌, ◌+◌, Bool, true, false, IsTrue, List, Option, Some, None, Result, Ok, Err}
-use Rattle.gt_disk.specs.Files.{View, Rose}
+use Rattle.std.specs.Prelude.{◌≡◌, ℕ, ◌≤◌, ◌+◌, Bool, true, false, IsTrue, List, Result}
+use Rattle.gt_disk.specs.Files.{View}
 use Rattle.gt_model.specs.declared.done.Done.{Done}
-use Rattle.gt_model.specs.declared.done.Done.TheVariants.{Object}
-use Rattle.gt_model.specs.declared.entry.Entry.{Entry}
 use Rattle.gt_model.specs.declared.event.Event.{Event}
 use Rattle.gt_model.specs.declared.event.Event.TheVariants.{Create, Delete, Cat, Commit}
 use Rattle.gt_model.specs.declared.limits.Limits.{Limits}
 use Rattle.gt_model.specs.declared.refusal.Refusal.{Refusal}
 use Rattle.gt_model.specs.declared.who.Who.{Who}
 use Rattle.gt_model.specs.Histories.{Happening, kept, last_state}
-use Rattle.gt_model.specs.Machine.{State, Step, StepOnAny, is_faulty}
+use Rattle.gt_model.specs.Machine.{State, Step, StepOnAny}
+use Rattle.gt_act.specs.Causes.{CallCause, IsLike, settling_calls}
 use Rattle.gt_part.specs.Shown.{Shown, Stands, HasRun, Continues, OneEvent, Records, Counts}
 
 -- the events that read an object
 abbrev pub reads_object : Event → Bool
 reads_object (Cat pin name) = true
 reads_object event = false
-
--- What is answered is this; or both are objects, of which a disk that doesn't tell may have given another one.
-abbrev pub IsLike : Result Done Refusal → Result Done Refusal → Type 0
-IsLike answer told = (answer ≡ told) ⊎ ((given held : List ℕ) × (answer ≡ Ok (Object given)) × (told ≡ Ok (Object held)))
 
 -- From a state the machine makes a step, over any disk, of whose answer the same record is kept; what is answered is the machine's answer, but for an object that a disk gave which doesn't tell.
 pub record Acted (limits : Limits) (s : State) (e : Event) (answer : Result Done Refusal) (NowStands : State → Type 0) : Type 0 where
@@ -36,17 +31,6 @@ pub record Stepped (limits : Limits) (s : State) (e : Event) (answer : Result Do
   pub after : State
   pub step : Step limits s e answer after
   pub stands : NowStands after
-
--- A failing disk is blamed where its count of faults rose, and only there: no fault hides behind another answer.
-pub record CallCause (before after : ℕ) (answer : Result Done Refusal) : Type 0 where
-  pub later : before ≤ after
-  pub fault : IsTrue (is_faulty answer) → Rose before after
-  pub sure : is_faulty answer ≡ false → after ≡ before
-
--- how many calls of the disk find out whether an entry in doubt is in the log
-abbrev pub settling_calls : Option Entry → ℕ
-settling_calls None = 0
-settling_calls (Some e) = 2
 
 -- how many calls of the disk an event makes at most where nothing is in doubt: four for an entry, one for an object
 abbrev pub own_calls : Event → ℕ

@@ -4,10 +4,8 @@ ghost use Rattle.gt_part.specs.Called.{Called};
 ghost use Rattle.gt_part.specs.Shown.{pins_of};
 
 use crate::Partition;
-use crate::create::create;
-use crate::delete::delete;
 use crate::noting::{note, take_room};
-use crate::reply::Reply;
+use gt_act::{Reply, create, delete};
 use gt_disk::Disk;
 use gt_model::{Answer, Event, Refusal, Who};
 use gt_name::RepoPath;

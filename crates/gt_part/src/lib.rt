@@ -2,19 +2,9 @@
 //! read it, and the trail of its events.
 #![tactic(auto)]
 
-mod aborting;
-mod beginning;
-mod book;
-mod cat;
 mod changing;
-mod commit;
-mod create;
-mod delete;
-mod ended;
 mod noting;
 mod partition;
-mod reading;
-mod reply;
 mod transacting;
 
 pub use partition::Partition;

@@ -1,7 +1,7 @@
 ghost use Rattle.std.specs.Prelude.{◌≡◌, ◌<◌, ◌≤◌, ◌+◌, ◌++◌, ◌∷◌, [], OnOk};
 ghost use Rattle.gt_part.specs.Shown.{turn_of};
 
-use crate::reply::Reply;
+use gt_act::Reply;
 use gt_list::NoMemory;
 use gt_model::{Answer, Event, Trail, Turn, Who};
 

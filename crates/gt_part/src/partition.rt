@@ -8,7 +8,7 @@ ghost use Rattle.gt_base.specs.Histories.{IsGood, Holds};
 ghost use Rattle.gt_part.specs.Mounts.{Mounts, HasMountCause};
 ghost use Rattle.gt_part.specs.Shown.{memory, Counts, HasRun, Continues, OneOpening, pins_of, front_of};
 
-use crate::book::Book;
+use gt_act::Book;
 use gt_base::Journal;
 use gt_disk::Disk;
 use gt_list::Roomy;

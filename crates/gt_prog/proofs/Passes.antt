@@ -14,8 +14,8 @@ use Rattle.gt_model.specs.declared.refusal.Refusal.{Refusal}
 use Rattle.gt_model.specs.declared.refusal.Refusal.TheVariants.{RepositoryGone, ReferenceConflict, DirectoryConflict, MissingObject, Unsure, Behind, PinsFull, NoRepository}
 use Rattle.gt_model.specs.Contents.{has_repo}
 use Rattle.gt_model.specs.Machine.{Pin, State, Effect, Step, Acts, Ends, Fails, SettledEntry, effect, reading, answers, refuses, first_refusal, front, content, free_number, is_live, released}
-use Rattle.gt_part.specs.Live as part
-use Rattle.gt_part.specs.Live.{GivesPin, EndsBy}
+use Rattle.gt_act.specs.Live as part
+use Rattle.gt_act.specs.Live.{GivesPin, EndsBy}
 use Rattle.gt_part.specs.Shown.{Shown, memory}
 use Rattle.gt_pins.proofs.Numbers.{free_number_free}
 use Rattle.gt_session.specs.Courses.{ends}

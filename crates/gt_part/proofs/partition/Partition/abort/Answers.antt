@@ -3,10 +3,11 @@ use Rattle.gt_model.specs.declared.event.Event.TheVariants.{Abort}
 use Rattle.gt_model.specs.Machine.{Pin, is_faulty, is_live, released}
 use Rattle.gt_pins.proofs.Numbers.{released_fewer}
 use Rattle.gt_part.specs.Shown.{Shown}
-use Rattle.gt_part.specs.Ended.{answer_of}
-use Rattle.gt_part.specs.declared.ended.Ended.{Ended}
-use Rattle.gt_part.proofs.Calling.{called, sure_cause}
-use Rattle.gt_part.proofs.Stepping.{moves_pins}
+use Rattle.gt_act.specs.Ended.{answer_of}
+use Rattle.gt_act.specs.declared.ended.Ended.{Ended}
+use Rattle.gt_act.proofs.Causes.{sure_cause}
+use Rattle.gt_part.proofs.Calling.{called}
+use Rattle.gt_act.proofs.Stepping.{moves_pins}
 use Rattle.gt_part.proofs.partition.Partition.abort.Goals as goal
 
 pub abort-ended-requires : goal.abort-ended-requires

@@ -5,7 +5,7 @@ use Rattle.gt_part.specs.Shown.{Shown}
 use Rattle.gt_part.proofs.Calling.{read_called, not_called}
 use Rattle.gt_part.proofs.Histories.{run_stored, run_sound, run_few}
 use Rattle.gt_part.proofs.Objects.{cat_steps}
-use Rattle.gt_part.proofs.Stepping.{moves_quiet}
+use Rattle.gt_act.proofs.Stepping.{moves_quiet}
 use Rattle.gt_part.proofs.partition.Partition.cat.Goals as goal
 
 pub returns-in-Err-clause-called : goal.returns-in-Err-clause-called

@@ -1,8 +1,8 @@
 use Rattle.std.proofs.Common.{◌≡◌, List, Some, true, false, sym, ◌∙◌, refl, ap, subst}
 use Rattle.gt_model.specs.Machine.{State, Pin, is_live}
 use Rattle.gt_part.specs.Shown.{memory}
-use Rattle.gt_part.specs.Live.{ends}
-use Rattle.gt_part.proofs.Commits.{Leaves, commit_ends, pin_kept, pin_gone}
+use Rattle.gt_act.specs.Live.{ends}
+use Rattle.gt_act.proofs.Commits.{Leaves, commit_ends, pin_kept, pin_gone}
 use Rattle.gt_part.proofs.partition.Partition.commit.Goals as goal
 
 pub returns-then-holds-clause-ended : goal.returns-then-holds-clause-ended

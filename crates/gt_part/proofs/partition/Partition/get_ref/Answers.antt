@@ -3,8 +3,9 @@ use Rattle.std.proofs.Common.{List}
 use Rattle.gt_model.specs.Machine.{Pin, is_live}
 use Rattle.gt_part.specs.Shown.{Shown}
 use Rattle.gt_model.specs.declared.event.Event.TheVariants.{GetRef}
-use Rattle.gt_part.proofs.Stepping.{moves_pins}
-use Rattle.gt_part.proofs.Calling.{called, not_called, same_called, sure_cause}
+use Rattle.gt_act.proofs.Stepping.{moves_pins}
+use Rattle.gt_act.proofs.Causes.{sure_cause}
+use Rattle.gt_part.proofs.Calling.{called, not_called, same_called}
 use Rattle.gt_part.proofs.partition.Partition.get_ref.Goals as goal
 
 pub returns-in_default-clause-called : goal.returns-in_default-clause-called

@@ -1,0 +1,4 @@
+pub mod Causes
+pub mod Stepping
+pub mod Commits
+pub mod Looking

@@ -1,0 +1,166 @@
+-- The parts of a step: what is in doubt is settled, and then the event acts.
+use Rattle.std.proofs.Common.{◌≡◌, inl, inr, ℕ, ◌+◌, ◌≤◌, Bool, true, false, cond, not, nat_le, nat_eq, find, is_some, ◌&&◌, IsTrue, List, [], ◌∷◌, length, Option, Some, None, Result, Ok, Err, refl, sym, ◌∙◌, ap, subst, arith}
+use Rattle.std.specs.Option.{option_map, unwrap_or}
+use Rattle.gt_disk.specs.Files.{States, View, now, Quiet}
+use Rattle.gt_model.specs.declared.change.Change.{Change}
+use Rattle.gt_model.specs.declared.change.Change.TheVariants.{Create as CreateChange, Delete as DeleteChange}
+use Rattle.gt_model.specs.declared.done.Done.{Done}
+use Rattle.gt_model.specs.declared.done.Done.TheVariants.{Created, Deleted, Committed, Finished}
+use Rattle.gt_model.specs.declared.added.Added.{Added}
+use Rattle.gt_model.specs.declared.update.RefUpdate.{RefUpdate}
+use Rattle.gt_model.specs.Verdicts.{verdict}
+use Rattle.gt_model.specs.declared.entry.Entry.{Entry}
+use Rattle.gt_model.specs.declared.event.Event.{Event}
+use Rattle.gt_model.specs.declared.event.Event.TheVariants.{Create, Delete, Commit}
+use Rattle.gt_model.specs.declared.limits.Limits.{Limits}
+use Rattle.gt_model.specs.declared.refusal.Refusal.{Refusal}
+use Rattle.gt_model.specs.declared.refusal.Refusal.TheVariants.{Memory, DeviceFault, RepositoryExists, NoRepository, PoolInUse, LogFull}
+use Rattle.gt_model.specs.Machine.{State, Pin, reading, pin_of, released, is_live_as, is_transaction, is_empty, committed, answers, front, content, is_full, next_entry, with_entry, with_pins, refuses, adds, unless, is_asked, settles, settles_turn, after_fault, RunsOut, Ends, Acts, SettledEntry, SettledTurn, Step}
+use Rattle.gt_model.specs.Contents.{nothing, after_all, has_repo, least_member}
+use Rattle.gt_history.proofs.Moves as moves
+use Rattle.gt_base.specs.Ledger.{Ledger, StoredBy, Stored, state_of}
+use Rattle.gt_base.specs.Recovery.{recover, Keeps, counters}
+use Rattle.gt_base.specs.Histories.{Moves, Settling}
+use Rattle.gt_base.proofs.Images.{stored_of, by_stored}
+use Rattle.gt_act.specs.Causes.{settling_calls}
+
+-- the position of the last entry
+pub front_is : (l : Ledger) (pins : List Pin) → front (state_of l pins) ≡ length l.log
+front_is l pins = let is : 0 + length l.log ≡ length l.log = omega arith in is
+
+module _ (limits : Limits) (event : Event) where
+  pub then_acts : (old mid new : State) (answer : Result Done Refusal) → IsTrue (is_asked old event) → settles event ≡ true → settles_turn event ≡ false → SettledEntry true old mid → Acts limits mid event answer new → Step limits old event answer new
+  then_acts old mid new answer asked first second settled acts =
+      (asked, inl (mid, (mid, subst (λ (b : Bool). SettledEntry b old mid) (sym first) settled, subst (λ (b : Bool). SettledTurn b mid mid) (sym second) refl), acts))
+
+  pub at_once : (old new : State) (answer : Result Done Refusal) → IsTrue (is_asked old event) → settles event ≡ false → settles_turn event ≡ false → Acts limits old event answer new → Step limits old event answer new
+  at_once old new answer asked first second acts =
+      (asked, inl (old, (old, subst (λ (b : Bool). SettledEntry b old old) (sym first) refl, subst (λ (b : Bool). SettledTurn b old old) (sym second) refl), acts))
+
+  -- what is in doubt stays so
+  pub fails_first : (old new : State) → IsTrue (is_asked old event) → settles event ≡ true → IsTrue (is_some old.doubt) → after_fault old event ≡ old → new ≡ old → Step limits old event (Err DeviceFault) new
+  fails_first old new asked first doubt after same =
+      (asked, inr (inl (refl, inl (both (settles event) (is_some old.doubt) first doubt, same ∙ sym after))))
+    where
+      both : (a b : Bool) → a ≡ true → IsTrue b → IsTrue (a && b)
+      both true b is holds = holds
+      both false b is holds = absurd (cc is)
+
+  -- memory is wanted, and nothing has changed
+  pub stops : (s : State) → IsTrue (is_asked s event) → RunsOut event s s → Step limits s event (Err Memory) s
+  stops s asked out = (asked, inr (inr (refl, out)))
+
+-- where nothing is in doubt no call settles it
+pub settle_calls : (doubt : Option Entry) (before after : ℕ) → (doubt ≡ None → after ≡ before) → after ≤ before + 2 → after ≤ before + settling_calls doubt
+settle_calls None before after idle most = omega (arith, idle refl)
+settle_calls (Some e) before after idle most = most
+
+-- ---- the files
+
+module _ (limits : Limits) where
+  -- what was in doubt is settled, or stays so
+  pub settling_moves : (old mid : State) (v w : View) → Settling limits old mid v w → Moves limits old mid v w
+  settling_moves old mid v w settling = moves.settling_still (recover limits) Keeps counters (Stored limits) old mid mid v w settling (λ stored. stored)
+
+  pub settled_moves : (old mid new : State) (u v w : View) → SettledEntry true old mid → mid.doubt ≡ None → Settling limits old mid u v → Moves limits mid new v w → Moves limits old new u w
+  settled_moves old mid new u v w settled clear settling moved = moves.settled_moves (recover limits) Keeps counters (Stored limits) old mid new u v w settled clear settling moved
+
+  -- the same log and doubt, whatever is live
+  pub same_files : (l m : Ledger) (pins after : List Pin) (states : States) → m.log ≡ l.log → m.doubt ≡ l.doubt → Stored limits (state_of l pins) states → Stored limits (state_of m after) states
+  same_files l m pins after states log_is doubt_is stored =
+      stored_of limits m after states (subst (λ (x : Ledger). StoredBy limits x states) (λ i. record { log = sym log_is i; doubt = sym doubt_is i }) (by_stored limits l pins states stored))
+
+  pub settling_pins : (old : State) (l m : Ledger) (pins after : List Pin) (v w : View) → m.log ≡ l.log → m.doubt ≡ l.doubt → Settling limits old (state_of l pins) v w → Moves limits old (state_of m after) v w
+  settling_pins old l m pins after v w log_is doubt_is settling =
+      moves.settling_still (recover limits) Keeps counters (Stored limits) old (state_of l pins) (state_of m after) v w settling (same_files l m pins after (now w) log_is doubt_is)
+
+  pub moves_pins : (l m : Ledger) (pins after : List Pin) (v : View) → m.log ≡ l.log → m.doubt ≡ l.doubt → Moves limits (state_of l pins) (state_of m after) v v
+  moves_pins l m pins after v log_is doubt_is = moves.moves_still (recover limits) Keeps counters (Stored limits) (state_of l pins) (state_of m after) v (same_files l m pins after (now v) log_is doubt_is)
+
+  pub moves_quiet : (s : State) (v w : View) → Quiet v w → Moves limits s s v w
+  moves_quiet s v w quiet = moves.moves_quiet (recover limits) Keeps counters (Stored limits) s s v w quiet (λ stored. stored)
+
+-- ---- entries
+
+-- where no refusal stands, an entry is added
+chosen : (s new : State) (one two : Bool) (r q : Refusal) (e : Entry) (done : Done) (pins : List Pin) (answer : Result Done Refusal) → one ≡ false → two ≡ false → answer ≡ Ok done → new ≡ with_pins (with_entry s e) pins
+    → Ends (cond one (refuses r s.pins) (cond two (refuses q s.pins) (adds e done pins))) s answer new
+chosen s new true two r q e done pins answer never other said is = absurd (cc never)
+chosen s new false true r q e done pins answer one never said is = absurd (cc never)
+chosen s new false false r q e done pins answer one other said is = inl (said, is)
+
+-- the entry that was added is the next one
+entry_at : (l m : Ledger) (pins after : List Pin) (position : ℕ) (copy path : List ℕ) (change : Change) → position ≡ length l.log + 1 → copy ≡ path
+    → state_of m after ≡ with_pins (with_entry (state_of l pins) (record { position = position; path = copy; change = change })) after → state_of m after ≡ with_pins (with_entry (state_of l pins) (next_entry (state_of l pins) path change)) after
+entry_at l m pins after position copy path change at copied is =
+    let here : position ≡ front (state_of l pins) + 1 = omega (arith, at) in
+    is ∙ (λ i. with_pins (with_entry (state_of l pins) (record { position = here i; path = copied i; change = change })) after)
+
+not_full : (limits : Limits) (l : Ledger) (pins : List Pin) → nat_le limits.positions (length l.log) ≡ false → is_full limits (state_of l pins) ≡ false
+not_full limits l pins room = ap (nat_le limits.positions) (front_is l pins) ∙ room
+
+pub creation_acts : (limits : Limits) (l m : Ledger) (pins : List Pin) (position : ℕ) (copy path : List ℕ) (pool : Bool) → copy ≡ path → has_repo (after_all nothing l.log) path ≡ false → nat_le limits.positions (length l.log) ≡ false → position ≡ length l.log + 1
+    → state_of m pins ≡ with_pins (with_entry (state_of l pins) (record { position = position; path = copy; change = CreateChange pool })) pins → Acts limits (state_of l pins) (Create path pool) (Ok (Created position pool)) (state_of m pins)
+creation_acts limits l m pins position copy path pool copied free room at is =
+    let s : State = state_of l pins in
+    let here : position ≡ front s + 1 = omega (arith, at) in
+    inl (chosen s (state_of m pins) (has_repo (content s) path) (is_full limits s) RepositoryExists LogFull (next_entry s path (CreateChange pool)) (Created (front s + 1) pool) pins (Ok (Created position pool)) free (not_full limits l pins room)
+    (ap (λ (n : ℕ). Ok (Created n pool)) here) (entry_at l m pins pins position copy path (CreateChange pool) at copied is))
+
+pub deletion_acts : (limits : Limits) (l m : Ledger) (pins : List Pin) (position : ℕ) (copy path : List ℕ) → copy ≡ path → has_repo (after_all nothing l.log) path ≡ true → least_member (after_all nothing l.log) path ≡ None → nat_le limits.positions (length l.log) ≡ false → position ≡ length l.log + 1
+    → state_of m pins ≡ with_pins (with_entry (state_of l pins) (record { position = position; path = copy; change = DeleteChange })) pins → Acts limits (state_of l pins) (Delete path) (Ok (Deleted position)) (state_of m pins)
+deletion_acts limits l m pins position copy path copied there unused room at is =
+    let s : State = state_of l pins in
+    let here : position ≡ front s + 1 = omega (arith, at) in
+    inl (by (least_member (content s) path) unused here)
+  where
+    by : (o : Option (List ℕ)) → o ≡ None → position ≡ front (state_of l pins) + 1
+        → Ends (cond (not (has_repo (content (state_of l pins)) path)) (refuses NoRepository pins) (unless (option_map PoolInUse o) pins (cond (is_full limits (state_of l pins)) (refuses LogFull pins) (adds (next_entry (state_of l pins) path DeleteChange) (Deleted (front (state_of l pins) + 1)) pins)))) (state_of l pins) (Ok (Deleted position)) (state_of m pins)
+    by (Some member) never here = absurd (cc never)
+    by None none here =
+        chosen (state_of l pins) (state_of m pins) (not (has_repo (content (state_of l pins)) path)) (is_full limits (state_of l pins)) NoRepository LogFull (next_entry (state_of l pins) path DeleteChange) (Deleted (front (state_of l pins) + 1)) pins (Ok (Deleted position)) (ap not there) (not_full limits l pins room)
+        (ap (λ (n : ℕ). Ok (Deleted n)) here) (entry_at l m pins pins position copy path DeleteChange at copied is)
+
+-- ---- what is live
+
+pub found_pin : (l : Ledger) (pins : List Pin) (number : ℕ) (p : Pin) → find (λ (q : Pin). nat_eq q.number number) pins ≡ Some p → pin_of (state_of l pins) number ≡ p
+found_pin l pins number p is = ap (λ (o : Option Pin). unwrap_or o (reading number 0 [])) is
+
+pub released_state : (l : Ledger) (pins new : List Pin) (number : ℕ) → new ≡ released pins number → state_of l new ≡ with_pins (state_of l pins) (released pins number)
+released_state l pins new number is = λ i. state_of l (is i)
+
+-- ending one lengthens nothing
+pub fewer_released : (pins : List Pin) (number : ℕ) → length (released pins number) ≤ length pins
+fewer_released [] number = omega arith
+fewer_released (p ∷ ps) number = by (not (nat_eq p.number number)) (fewer_released ps number)
+  where
+    by : (b : Bool) → length (released ps number) ≤ length ps → length (cond b (p ∷ released ps number) (released ps number)) ≤ length (p ∷ ps)
+    by true le = omega (arith, le)
+    by false le = omega (arith, le)
+
+pub fewer_by : (pins new : List Pin) (number : ℕ) → new ≡ released pins number → length new ≤ length pins
+fewer_by pins new number is = omega (arith, ap (λ (pins : List Pin). length pins) is, fewer_released pins number)
+
+-- ---- a commit
+
+-- the entry of a good commit is added, and its transaction is gone
+pub write_adds : (l m : Ledger) (pins after : List Pin) (entry : Entry) (number : ℕ) (answer : Result Done Refusal) → answer ≡ Ok (Committed entry.position) → after ≡ released pins number
+    → state_of m after ≡ with_pins (with_entry (state_of l pins) entry) after → Ends (adds entry (Committed entry.position) (released pins number)) (state_of l pins) answer (state_of m after)
+write_adds l m pins after entry number answer said gone is = inl (said, is ∙ (λ i. with_pins (with_entry (state_of l pins) entry) (gone i)))
+
+pub nothing_staged : (refs : List RefUpdate) (records : List Added) → refs ≡ [] → records ≡ [] → is_empty refs records ≡ true
+nothing_staged refs records empty none = λ i. is_empty (empty i) (none i)
+
+-- a transaction that has staged nothing ends
+pub finish_steps : (limits : Limits) (l m : Ledger) (pins after : List Pin) (number : ℕ) (refs : List RefUpdate) (records : List Added) (answer : Result Done Refusal) → is_live_as is_transaction pins number ≡ true → is_empty refs records ≡ true
+    → answer ≡ Ok (Finished (pin_of (state_of l pins) number).position) → m.log ≡ l.log → m.doubt ≡ l.doubt → after ≡ released pins number → Step limits (state_of l pins) (Commit number refs records) answer (state_of m after)
+finish_steps limits l m pins after number refs records answer live none said log_is doubt_is gone =
+    let s : State = state_of l pins in
+    at_once limits (Commit number refs records) s (state_of m after) answer live (ap not none) refl (inl (by (is_empty refs records) none))
+  where
+    by : (b : Bool) → b ≡ true → Ends (cond b (answers (Finished (pin_of (state_of l pins) number).position) (released pins number)) (committed limits (state_of l pins) number (record { refs = refs; records = records }) (verdict (content (state_of l pins)) (pin_of (state_of l pins) number).path (record { refs = refs; records = records })))) (state_of l pins) answer (state_of m after)
+    by true is = (said, λ i. state_of (record { log = log_is i; doubt = doubt_is i }) (gone i))
+    by false is = absurd (cc is)
+
+pub some_staged : (refs : List RefUpdate) (records : List Added) → (is_empty refs records ≡ false) → settles (Commit 0 refs records) ≡ true
+some_staged refs records some = ap not some

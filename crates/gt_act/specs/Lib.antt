@@ -1,0 +1,5 @@
+pub mod Book
+pub mod Cat
+pub mod Causes
+pub mod Ended
+pub mod Live

@@ -1,0 +1,70 @@
+ghost use Rattle.std.specs.Prelude.{◌≡◌, ◌≤◌, ◌<◌, ◌+◌, length, false, IsTrue, None};
+ghost use Rattle.gt_model.specs.declared.event.Event.{Event};
+ghost use Rattle.gt_model.specs.Machine.{Step, Acts, is_faulty, free_number};
+ghost use Rattle.gt_act.specs.Book.{state_of};
+ghost use Rattle.gt_act.specs.declared.ended.Ended.{Ended as End};
+ghost use Rattle.gt_act.specs.Causes.{CallCause, settling_calls};
+ghost use Rattle.gt_act.specs.Ended.{answer_of};
+ghost use Rattle.gt_act.specs.Live.{GivesPin};
+ghost use Rattle.gt_base.specs.Histories.{Moves};
+
+use crate::book::Book;
+use crate::ended::Ended;
+use gt_disk::{Disk, Failed};
+use gt_model::Limits;
+use gt_name::RepoPath;
+use gt_pins::Pin;
+
+/// Settles what is in doubt, and then begins a transaction at the front.
+pub fn begin<D: Disk>(
+    limits: &Limits,
+    book: &mut Book,
+    disk: &mut D,
+    path: &RepoPath,
+    seen: u64,
+) -> (Ended, Option<Pin>)
+    ensures step { Step limits.now (state_of book.old) (Event.Begin path.now seen) (answer_of result.0) (state_of book.new) }
+    ensures one { length book.new.live ≤ length book.old.live + 1 }
+    ensures gives { GivesPin (answer_of result.0) result.1 (free_number book.old.live) }
+    ensures cause { CallCause (D.fault_count disk.old) (D.fault_count disk.new) (answer_of result.0) }
+    ensures counted { D.call_count disk.new ≤ D.call_count disk.old + settling_calls book.old.journal.doubt }
+    ensures moves { IsTrue D.tells → Moves limits.now (state_of book.old) (state_of book.new) (D.view disk.old) (D.view disk.new) }
+{
+    if let Err(Failed) = book.journal.settle(disk) {
+        return (Ended::DeviceFault, None);
+    }
+    begin_settled(limits, book, path, seen)
+}
+
+/// Begins a transaction at the front, where nothing is in doubt.
+fn begin_settled(
+    limits: &Limits,
+    book: &mut Book,
+    path: &RepoPath,
+    seen: u64,
+) -> (Ended, Option<Pin>)
+    requires { book.old.journal.doubt ≡ None }
+    ensures acts { Acts limits.now (state_of book.old) (Event.Begin path.now seen) (answer_of result.0) (state_of book.new) }
+    ensures one { length book.new.live ≤ length book.old.live + 1 }
+    ensures gives { GivesPin (answer_of result.0) result.1 (free_number book.old.live) }
+    ensures log { book.new.journal.log ≡ book.old.journal.log }
+    ensures doubt { book.new.journal.doubt ≡ book.old.journal.doubt }
+    ensures behind { length book.old.journal.log < seen → result.0 ≡ End.Behind seen (length book.old.journal.log) }
+    ensures full { seen ≤ length book.old.journal.log → limits.now.pins ≤ length book.old.live → result.0 ≡ End.PinsFull }
+    ensures sure { is_faulty (answer_of result.0) ≡ false }
+{
+    let front = book.journal.table().front();
+    if front < seen {
+        return (Ended::Behind { seen, front }, None);
+    }
+    let Ok(number) = book.live.free_number(limits.pins) else {
+        return (Ended::PinsFull, None);
+    };
+    if !book.journal.table().has_repo(path) {
+        return (Ended::NoRepository, None);
+    }
+    match book.live.begin(number, front, path) {
+        Ok(pin) => (Ended::Begun { position: front }, Some(pin)),
+        Err(_) => (Ended::Memory, None),
+    }
+}

@@ -1,0 +1,138 @@
+ghost use Rattle.std.specs.Prelude.{◌≡◌, ◌≤◌, ◌⊎◌, ◌+◌, length, true, false, IsTrue, None};
+ghost use Rattle.gt_model.specs.declared.event.Event.{Event};
+ghost use Rattle.gt_model.specs.declared.done.Done.TheVariants.{Committed};
+ghost use Rattle.gt_model.specs.Machine.{Step, Acts, Ends, adds, pin_of, is_live, is_empty, released};
+ghost use Rattle.gt_act.specs.Book.{state_of};
+ghost use Rattle.gt_act.specs.Causes.{CallCause, settling_calls};
+ghost use Rattle.gt_act.specs.Ended.{answer_of, IsKeptOf};
+ghost use Rattle.gt_act.specs.declared.ended.Ended.{Ended as End};
+ghost use Rattle.gt_base.specs.Histories.{Moves};
+ghost use Rattle.gt_model.specs.Contents.{nothing, after_all};
+ghost use Rattle.gt_write.specs.Checking.{IsChecked, IsGoodWrite};
+ghost use Rattle.gt_table.specs.Built.{IsBuilt};
+
+use crate::book::Book;
+use crate::ended::Ended;
+use crate::reply::Reply;
+use gt_disk::{Disk, Failed};
+use gt_log::LogError;
+use gt_model::{Entry, Limits};
+use gt_pins::Pin;
+use gt_stage::Stage;
+use gt_write::{Checked, check_commit};
+use std::alloc::Global;
+
+/// Commits what a transaction has staged. Where nothing is staged, nothing is settled and no check is made.
+pub fn commit<D: Disk>(
+    alloc: Global,
+    limits: &Limits,
+    book: &mut Book,
+    disk: &mut D,
+    pin: &Pin,
+    stage: &Stage,
+) -> Reply
+    requires { is_live book.old.live pin.now ≡ true }
+    ensures step { Step limits.now (state_of book.old) (Event.Commit pin.now stage.now.staged.refs stage.now.staged.records) result.answer (state_of book.new) }
+    ensures kept { IsKeptOf (state_of book.old) (Event.Commit pin.now stage.now.staged.refs stage.now.staged.records) result }
+    ensures fewer { length book.new.live ≤ length book.old.live }
+    ensures cause { CallCause (D.fault_count disk.old) (D.fault_count disk.new) result.answer }
+    ensures counted { D.call_count disk.new ≤ D.call_count disk.old + settling_calls book.old.journal.doubt + 4 }
+    ensures moves { IsTrue D.tells → Moves limits.now (state_of book.old) (state_of book.new) (D.view disk.old) (D.view disk.new) }
+{
+    // a law, which does nothing
+    book.live.are_transactions();
+    if stage.is_empty() {
+        return Reply::of(finish(book, pin));
+    }
+    if let Err(Failed) = book.journal.settle(disk) {
+        return Reply::of(Ended::DeviceFault);
+    }
+    commit_settled(alloc, limits, book, disk, pin, stage)
+}
+
+/// Ends a transaction that has staged nothing.
+fn finish(book: &mut Book, pin: &Pin) -> Ended
+    requires { is_live book.old.live pin.now ≡ true }
+    ensures answer { result ≡ End.Finished (pin_of (state_of book.old) pin.now).position }
+    ensures log { book.new.journal.log ≡ book.old.journal.log }
+    ensures doubt { book.new.journal.doubt ≡ book.old.journal.doubt }
+    ensures live { book.new.live ≡ released book.old.live pin.now }
+{
+    let position = book.live.get(pin).position;
+    book.live.release(pin);
+    Ended::Finished { position }
+}
+
+/// Commits what is staged, where nothing is in doubt.
+fn commit_settled<D: Disk>(
+    alloc: Global,
+    limits: &Limits,
+    book: &mut Book,
+    disk: &mut D,
+    pin: &Pin,
+    stage: &Stage,
+) -> Reply
+    requires settled { book.old.journal.doubt ≡ None }
+    requires live { is_live book.old.live pin.now ≡ true }
+    requires staged { is_empty stage.now.staged.refs stage.now.staged.records ≡ false }
+    ensures acts { Acts limits.now (state_of book.old) (Event.Commit pin.now stage.now.staged.refs stage.now.staged.records) result.answer (state_of book.new) }
+    ensures kept { IsKeptOf (state_of book.old) (Event.Commit pin.now stage.now.staged.refs stage.now.staged.records) result }
+    ensures fewer { length book.new.live ≤ length book.old.live }
+    ensures cause { CallCause (D.fault_count disk.old) (D.fault_count disk.new) result.answer }
+    ensures counted { D.call_count disk.new ≤ D.call_count disk.old + 4 }
+    ensures moves { IsTrue D.tells → Moves limits.now (state_of book.old) (state_of book.new) (D.view disk.old) (D.view disk.new) }
+{
+    match check(alloc, limits, book, pin, stage) {
+        Checked::Good(entry) => Reply::of(add_write(alloc, limits, book, disk, pin, entry)),
+        Checked::Refused { answer, kept } => {
+            book.live.release(pin);
+            Reply::refused(answer, kept)
+        }
+        Checked::Full => Reply::of(Ended::LogFull),
+        Checked::Memory => Reply::of(Ended::Memory),
+    }
+}
+
+/// Checks what a transaction has staged against the content at the front.
+fn check(alloc: Global, limits: &Limits, book: &Book, pin: &Pin, stage: &Stage) -> Checked
+    requires { is_live book.now.live pin.now ≡ true }
+    ensures { IsChecked limits.now (length book.now.journal.log) (after_all nothing book.now.journal.log) (pin_of (state_of book.now) pin.now).path stage.now.staged result }
+{
+    let live = book.live.get(pin);
+    let table = book.journal.table();
+    check_commit(alloc, limits, table.front(), table, &live.path, stage)
+}
+
+/// Adds the entry of a good commit, and ends its transaction.
+fn add_write<D: Disk>(
+    alloc: Global,
+    limits: &Limits,
+    book: &mut Book,
+    disk: &mut D,
+    pin: &Pin,
+    entry: Entry,
+) -> Ended
+    requires settled { book.old.journal.doubt ≡ None }
+    requires live { is_live book.old.live pin.now ≡ true }
+    requires built { IsBuilt entry }
+    requires good { IsGoodWrite limits.now (length book.old.journal.log) (after_all nothing book.old.journal.log) entry }
+    ensures adds { Ends (adds entry (Committed entry.position) (released book.old.live pin.now)) (state_of book.old) (answer_of result) (state_of book.new) ⊎ (((result ≡ End.Memory) ⊎ (result ≡ End.DeviceFault)) × (state_of book.new ≡ state_of book.old)) }
+    ensures fewer { length book.new.live ≤ length book.old.live }
+    ensures cause { CallCause (D.fault_count disk.old) (D.fault_count disk.new) (answer_of result) }
+    ensures counted { D.call_count disk.new ≤ D.call_count disk.old + 4 }
+    ensures moves { IsTrue D.tells → Moves limits.now (state_of book.old) (state_of book.new) (D.view disk.old) (D.view disk.new) }
+{
+    let position = entry.position;
+    match book.journal.add(alloc, limits, disk, entry) {
+        Ok(()) => {
+            book.live.release(pin);
+            Ended::Committed { position }
+        }
+        Err(LogError::Unsure) => {
+            book.live.release(pin);
+            Ended::Unsure { position }
+        }
+        Err(LogError::Untouched) => Ended::DeviceFault,
+        Err(LogError::Memory) => Ended::Memory,
+    }
+}

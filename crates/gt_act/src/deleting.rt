@@ -1,0 +1,125 @@
+ghost use Rattle.std.specs.Prelude.{◌≡◌, ◌≤◌, ◌+◌, IsTrue, IfOk, None, Err, true};
+ghost use Rattle.gt_model.specs.declared.event.Event.{Event};
+ghost use Rattle.gt_model.specs.declared.refusal.Refusal.{Refusal as Why};
+ghost use Rattle.gt_model.specs.Contents.{nothing, after_all, has_repo, least_member};
+ghost use Rattle.gt_model.specs.Histories.{kept};
+ghost use Rattle.gt_model.specs.Machine.{Step, Acts};
+ghost use Rattle.gt_act.specs.Book.{state_of};
+ghost use Rattle.gt_act.specs.Causes.{CallCause, settling_calls};
+ghost use Rattle.gt_act.specs.Ended.{answer_of, IsKeptOf};
+ghost use Rattle.gt_base.specs.Histories.{Moves};
+
+use crate::book::Book;
+use crate::ended::Ended;
+use crate::reply::Reply;
+use gt_disk::{Disk, Failed};
+use gt_list::NoMemory;
+use gt_log::LogError;
+use gt_model::{Change, Entry, Limits, Refusal};
+use gt_name::RepoPath;
+use std::alloc::Global;
+
+/// Settles what is in doubt, and then deletes a repository.
+pub fn delete<D: Disk>(
+    alloc: Global,
+    limits: &Limits,
+    book: &mut Book,
+    disk: &mut D,
+    path: &RepoPath,
+) -> Reply
+    ensures step { Step limits.now (state_of book.old) (Event.Delete path.now) result.answer (state_of book.new) }
+    ensures kept { IsKeptOf (state_of book.old) (Event.Delete path.now) result }
+    ensures pins { book.new.live ≡ book.old.live }
+    ensures cause { CallCause (D.fault_count disk.old) (D.fault_count disk.new) result.answer }
+    ensures counted { D.call_count disk.new ≤ D.call_count disk.old + settling_calls book.old.journal.doubt + 4 }
+    ensures moves { IsTrue D.tells → Moves limits.now (state_of book.old) (state_of book.new) (D.view disk.old) (D.view disk.new) }
+{
+    if let Err(Failed) = book.journal.settle(disk) {
+        return Reply::of(Ended::DeviceFault);
+    }
+    delete_settled(alloc, limits, book, disk, path)
+}
+
+/// Deletes a repository, where nothing is in doubt.
+fn delete_settled<D: Disk>(
+    alloc: Global,
+    limits: &Limits,
+    book: &mut Book,
+    disk: &mut D,
+    path: &RepoPath,
+) -> Reply
+    requires { book.old.journal.doubt ≡ None }
+    ensures acts { Acts limits.now (state_of book.old) (Event.Delete path.now) result.answer (state_of book.new) }
+    ensures kept { IsKeptOf (state_of book.old) (Event.Delete path.now) result }
+    ensures pins { book.new.live ≡ book.old.live }
+    ensures cause { CallCause (D.fault_count disk.old) (D.fault_count disk.new) result.answer }
+    ensures counted { D.call_count disk.new ≤ D.call_count disk.old + 4 }
+    ensures moves { IsTrue D.tells → Moves limits.now (state_of book.old) (state_of book.new) (D.view disk.old) (D.view disk.new) }
+{
+    if !book.journal.table().has_repo(path) {
+        return Reply::of(Ended::NoRepository);
+    }
+    if let Some(member) = book.journal.table().least_member(path) {
+        return match in_use(member) {
+            Ok(reply) => reply,
+            Err(NoMemory) => Reply::of(Ended::Memory),
+        };
+    }
+    Reply::of(delete_unused(alloc, limits, book, disk, path))
+}
+
+/// A pool is in use by a member.
+fn in_use(member: &RepoPath) -> Result<Reply, NoMemory>
+    ensures answer { IfOk result (λ reply. reply.answer ≡ Err (Why.PoolInUse member.now)) }
+    ensures kept { IfOk result (λ reply. reply.kept ≡ Err (Why.PoolInUse member.now)) }
+{
+    let Ok(member) = member.clone() else {
+        return Err(NoMemory);
+    };
+    let Ok(kept) = member.clone() else {
+        return Err(NoMemory);
+    };
+    Ok(Reply::refused(
+        Refusal::PoolInUse { member },
+        Refusal::PoolInUse { member: kept },
+    ))
+}
+
+/// Deletes a repository that is there, and that none has as its pool.
+fn delete_unused<D: Disk>(
+    alloc: Global,
+    limits: &Limits,
+    book: &mut Book,
+    disk: &mut D,
+    path: &RepoPath,
+) -> Ended
+    requires settled { book.old.journal.doubt ≡ None }
+    requires there { has_repo (after_all nothing book.old.journal.log) path.now ≡ true }
+    requires unused { least_member (after_all nothing book.old.journal.log) path.now ≡ None }
+    ensures acts { Acts limits.now (state_of book.old) (Event.Delete path.now) (answer_of result) (state_of book.new) }
+    ensures kept { kept (state_of book.old) (Event.Delete path.now) (answer_of result) ≡ answer_of result }
+    ensures pins { book.new.live ≡ book.old.live }
+    ensures cause { CallCause (D.fault_count disk.old) (D.fault_count disk.new) (answer_of result) }
+    ensures counted { D.call_count disk.new ≤ D.call_count disk.old + 4 }
+    ensures moves { IsTrue D.tells → Moves limits.now (state_of book.old) (state_of book.new) (D.view disk.old) (D.view disk.new) }
+{
+    let front = book.journal.table().front();
+    if limits.positions <= front {
+        return Ended::LogFull;
+    }
+    let Ok(path) = path.clone() else {
+        return Ended::Memory;
+    };
+    let position = front + 1;
+    let entry = Entry {
+        position,
+        path,
+        change: Change::Delete,
+    };
+    match book.journal.add(alloc, limits, disk, entry) {
+        Ok(()) => Ended::Deleted { position },
+        Err(LogError::Untouched) => Ended::DeviceFault,
+        Err(LogError::Unsure) => Ended::Unsure { position },
+        Err(LogError::Memory) => Ended::Memory,
+    }
+}

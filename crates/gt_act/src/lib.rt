@@ -1,0 +1,25 @@
+//! Each event over the log in memory and its live transactions: what is in doubt is settled, the answer is found by the
+//! machine's causes in their order, and an entry is added where one is to be.
+#![tactic(auto)]
+
+mod aborting;
+mod beginning;
+mod book;
+mod committing;
+mod creating;
+mod deleting;
+mod ended;
+mod objects;
+mod reading;
+mod reply;
+
+pub use aborting::abort;
+pub use beginning::begin;
+pub use book::Book;
+pub use committing::commit;
+pub use creating::create;
+pub use deleting::delete;
+pub use ended::Ended;
+pub use objects::cat;
+pub use reading::{get_ref, list_refs};
+pub use reply::Reply;
