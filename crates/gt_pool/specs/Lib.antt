@@ -1,0 +1,4 @@
+pub mod Counting
+pub mod Claimed
+pub mod Ticketed
+pub mod Known

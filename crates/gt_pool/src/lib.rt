@@ -1,0 +1,13 @@
+//! Workers in threads: each index is claimed once and worked on once, and tickets go from worker to worker.
+#![tactic(auto)]
+
+mod claim_rule;
+mod claim_view;
+mod claims;
+mod ticket_rule;
+mod ticket_view;
+mod tickets;
+
+pub use claim_view::ClaimView;
+pub use ticket_view::TicketView;
+pub use tickets::{TicketPass, Tickets};
