@@ -1,3 +1,4 @@
 pub mod Totals
 pub mod ClaimMoves
 pub mod TicketMoves
+pub mod ChainLemmas

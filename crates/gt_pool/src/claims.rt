@@ -63,7 +63,7 @@ impl Claims {
     }
 
     /// The next number below the count that nobody has. None once all are claimed, and from then on.
-    pub fn claim(&self, claimer: &mut Claimer) -> Option<u64>
+    pub fn claim(&self, claimer: &mut Claimer) -> Option<u32>
         requires { claimer.old.of ≡ self.now }
         ensures of { (claimer.new.of ≡ self.now) × (claimer.new.parts ≡ claimer.old.parts) }
         ensures claims { MatchOption result ((claimer.new.claims ≡ claimer.old.claims) × (claimer.new.finished ≡ true)) (λ n. (n < self.now.count) × (claimer.new.claims ≡ claimer.old.claims ++ n ∷ [])) }
@@ -76,7 +76,7 @@ impl Claims {
             .shared
             .fetch_add::<Claim>(&mut claimer.seat, 0, 1);
         if n < u64::from(self.count) {
-            Some(n)
+            Some(n as u32)
         } else {
             claimer.finished = true;
             None

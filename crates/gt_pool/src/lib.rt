@@ -4,10 +4,14 @@
 mod claim_rule;
 mod claim_view;
 mod claims;
+mod numbered;
 mod ticket_rule;
 mod ticket_view;
 mod tickets;
+mod work;
+mod worker;
 
 pub use claim_view::ClaimView;
 pub use ticket_view::TicketView;
 pub use tickets::{TicketPass, Tickets};
+pub use work::Work;
