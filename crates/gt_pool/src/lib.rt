@@ -5,13 +5,17 @@ mod claim_rule;
 mod claim_view;
 mod claims;
 mod numbered;
+mod lists;
 mod ticket_rule;
 mod ticket_view;
 mod tickets;
+mod turned;
 mod work;
 mod worker;
+mod workers;
 
 pub use claim_view::ClaimView;
+pub use lists::{Kits, Pieces};
 pub use ticket_view::TicketView;
 pub use tickets::{TicketPass, Tickets};
 pub use work::Work;
