@@ -17,7 +17,7 @@ pub all_less : {A : Type 0} (P : A → Type 0) (xs : List A) (x : A) → AllByRe
 all_less P [] x h = (tt, h.0)
 all_less P (y ∷ ys) x h = let r = all_less P ys x h.1 in ((h.0, r.0), r.1)
 
-indices_more : {P : Type 0} (xs : List (Numbered P)) (x : Numbered P) → indices_of (xs ++ x ∷ []) ≡ indices_of xs ++ x.index ∷ []
+pub indices_more : {P : Type 0} (xs : List (Numbered P)) (x : Numbered P) → indices_of (xs ++ x ∷ []) ≡ indices_of xs ++ x.index ∷ []
 indices_more [] x = refl
 indices_more (y ∷ ys) x = ap (λ (is : List ℕ). y.index ∷ is) (indices_more ys x)
 

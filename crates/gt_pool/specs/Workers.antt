@@ -1,5 +1,5 @@
 -- What holds of a worker, and of the pieces of all.
-use Rattle.std.specs.Prelude.{◌≡◌, ℕ, ◌<◌, List, [], map, Bool, true, false}
+use Rattle.std.specs.Prelude.{◌≡◌, ℕ, ◌<◌, ◌≤◌, List, [], ◌∷◌, ◌++◌, map, Bool, true, false, Option, Some, None, get_or}
 use Rattle.std.specs.List.{AllByRecursion}
 use Rattle.gt_pool.specs.declared.numbered.Numbered.{Numbered}
 use Rattle.gt_pool.specs.declared.worker.Worker.{Worker}
@@ -34,3 +34,22 @@ pub record IsAt {K P : Type 0} (gives : ℕ → P → Type 0) (step : K → ℕ 
 pub record IsDone {K P : Type 0} (gives : ℕ → P → Type 0) (step : K → ℕ → K → Type 0) (claims : Counted) (tickets : Queued) (kit : K) (w : Worker K P) : Type 0 where
   pub so_far : IsAt gives step claims tickets kit w
   pub finished : w.short ≡ false → w.claimer.finished ≡ true
+
+-- A worker that is at the end, with memory for all its pieces.
+pub record IsHome {K P : Type 0} (claims : Counted) (w : Worker K P) : Type 0 where
+  pub of : w.claimer.of ≡ claims
+  pub parts : w.claimer.parts ≡ 1
+  pub finished : w.claimer.finished ≡ true
+
+-- the pieces of all, those of the last one first
+abbrev pub collected : {K P : Type 0} → List (Worker K P) → List (Numbered P)
+collected [] = []
+collected (w ∷ ws) = collected ws ++ w.pieces
+
+-- Each place that has a piece has one that its index may give.
+abbrev pub AreFilled : {P : Type 0} → (ℕ → P → Type 0) → List (Option P) → Type 0
+AreFilled {P} gives slots = (i : ℕ) (p : P) → get_or slots i None ≡ Some p → gives i p
+
+-- Each place that has none has one among the pieces that are left.
+abbrev pub AreAwaited : {P : Type 0} → List (Option P) → ℕ → List (Numbered P) → Type 0
+AreAwaited slots count left = (i : ℕ) → i < count → get_or slots i None ≡ None → 1 ≤ times i (indices_of left)

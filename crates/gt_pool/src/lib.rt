@@ -5,6 +5,8 @@ mod claim_rule;
 mod claim_view;
 mod claims;
 mod numbered;
+mod placing;
+mod gathering;
 mod lists;
 mod ticket_rule;
 mod ticket_view;

@@ -1,4 +1,4 @@
-ghost use Rattle.std.specs.Prelude.{◌≡◌, ◌≤◌, ◌<◌, ◌+◌, ◌-◌, ◌++◌, [], ℕ, map, length, reverse, vec_len, true, false, IfOk};
+ghost use Rattle.std.specs.Prelude.{◌≡◌, ◌≤◌, ◌<◌, ◌+◌, ◌-◌, ◌++◌, [], ℕ, map, length, reverse, true, false, IfOk};
 ghost use Rattle.std.specs.List.{AllByRecursion, list_any};
 ghost use Rattle.gt_pool.specs.Counting.{total, times, below};
 ghost use Rattle.gt_pool.specs.Workers.{indices_of, AreGiven, IsReady, IsAt, IsDone};
@@ -23,7 +23,7 @@ pub(crate) fn workers_of<K: Drop, P: Drop>(
     requires claimer { claimer.old ≡ record { of = claims.now; parts = 1024; finished = false; claims = [] } }
     requires pass { (pass.old.of ≡ tickets.now) × (pass.old.parts ≡ 1024) }
     requires few { length kits ≤ 1023 }
-    ensures claimer { IfOk result (λ ws. claimer.new ≡ record { of = claims.now; parts = 1024 - vec_len ws; finished = false; claims = [] }) }
+    ensures claimer { IfOk result (λ ws. claimer.new ≡ record { of = claims.now; parts = 1024 - length ws.items; finished = false; claims = [] }) }
     ensures kits { IfOk result (λ ws. map (λ w. w.kit) ws.items ≡ kits) }
     ensures ready { IfOk result (λ ws. AllByRecursion (IsReady claims.now tickets.now) ws.items) }
 {
@@ -49,7 +49,7 @@ pub(crate) fn is_short<K, P>(workers: &[Worker<K, P>]) -> bool
 }
 
 /// Appends all.
-fn append<P: Drop>(
+pub(crate) fn append<P: Drop>(
     all: &mut ListOf<Numbered<P>>,
     more: ListOf<Numbered<P>>,
     alloc: Global,
