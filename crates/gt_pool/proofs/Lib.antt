@@ -4,3 +4,4 @@ pub mod TicketMoves
 pub mod ChainLemmas
 pub mod PlaceLemmas
 pub mod GatherLemmas
+pub mod DoneLemmas

@@ -24,23 +24,23 @@ pub filled_more : {P : Type 0} (gives : ℕ → P → Type 0) (slots : List (Opt
 filled_more gives slots i p lt h one j q e =
     dite (ℕ_discrete j i)
     (λ (is : j ≡ i).
-        let at : get_or (set slots i (Some p)) i None ≡ Some q = ap (λ (k : ℕ). get_or (set slots i (Some p)) k None) (sym is) ∙ e in
-        let same : p ≡ q = some_is p q (sym (get_or-set_same slots i (Some p) None lt) ∙ at) in
-        subst (λ (k : ℕ). gives k q) (sym is) (subst (gives i) same one))
+    let at : get_or (set slots i (Some p)) i None ≡ Some q = ap (λ (k : ℕ). get_or (set slots i (Some p)) k None) (sym is) ∙ e in
+    let same : p ≡ q = some_is p q (sym (get_or-set_same slots i (Some p) None lt) ∙ at) in
+    subst (λ (k : ℕ). gives k q) (sym is) (subst (gives i) same one))
     (λ (other : j ≢ i). h j q (sym (get_or-set_other slots i j (Some p) None other) ∙ e))
 
 pub awaited_less : {P : Type 0} (slots : List (Option P)) (count : ℕ) (xs : List (Numbered P)) (x : Numbered P) → x.index < length slots → AreAwaited slots count (xs ++ x ∷ []) → AreAwaited (set slots x.index (Some x.piece)) count xs
 awaited_less slots count xs x lt h j below_count e =
     dite (ℕ_discrete j x.index)
     (λ (is : j ≡ x.index).
-        let at : get_or (set slots x.index (Some x.piece)) x.index None ≡ None = ap (λ (k : ℕ). get_or (set slots x.index (Some x.piece)) k None) (sym is) ∙ e in
-        absurd (some_none x.piece (sym (get_or-set_same slots x.index (Some x.piece) None lt) ∙ at)))
+    let at : get_or (set slots x.index (Some x.piece)) x.index None ≡ None = ap (λ (k : ℕ). get_or (set slots x.index (Some x.piece)) k None) (sym is) ∙ e in
+    absurd (some_none x.piece (sym (get_or-set_same slots x.index (Some x.piece) None lt) ∙ at)))
     (λ (other : j ≢ x.index).
-        let was = h j below_count (sym (get_or-set_other slots x.index j (Some x.piece) None other) ∙ e) in
-        let all = ap (times j) (indices_more xs x) in
-        let sum = total_append (λ y. pick (nat_eq y j) 1 0) (indices_of xs) (x.index ∷ []) in
-        let none = ap {B = ℕ} (λ b. pick b 1 0) (ne_eqb x.index j (λ same. other (sym same))) in
-        omega (arith, was, all, sum, none))
+    let was = h j below_count (sym (get_or-set_other slots x.index j (Some x.piece) None other) ∙ e) in
+    let all = ap (times j) (indices_more xs x) in
+    let sum = total_append (λ y. pick (nat_eq y j) 1 0) (indices_of xs) (x.index ∷ []) in
+    let none = ap {B = ℕ} (λ b. pick b 1 0) (ne_eqb x.index j (λ same. other (sym same))) in
+    omega (arith, was, all, sum, none))
 
 pub all_inside : {P : Type 0} (count : ℕ) (xs : List (Numbered P)) → ((x : ℕ) → times x (indices_of xs) ≤ below x count) → AllByRecursion (λ x. x.index < count) xs
 all_inside count [] h = tt

@@ -1,9 +1,9 @@
 -- What holds of a worker, and of the pieces of all.
-use Rattle.std.specs.Prelude.{◌≡◌, ℕ, ◌<◌, ◌≤◌, List, [], ◌∷◌, ◌++◌, map, Bool, true, false, Option, Some, None, get_or}
+use Rattle.std.specs.Prelude.{◌≡◌, ℕ, ◌<◌, ◌≤◌, List, [], ◌∷◌, ◌++◌, map, true, false, Option, Some, None, get_or}
 use Rattle.std.specs.List.{AllByRecursion}
 use Rattle.gt_pool.specs.declared.numbered.Numbered.{Numbered}
 use Rattle.gt_pool.specs.declared.worker.Worker.{Worker}
-use Rattle.gt_pool.specs.Counting.{times, below}
+use Rattle.gt_pool.specs.Counting.{times}
 use Rattle.gt_pool.specs.Known.{Counted, Queued}
 use Rattle.gt_pool.specs.Working.{Chain}
 
@@ -53,3 +53,10 @@ AreFilled {P} gives slots = (i : ℕ) (p : P) → get_or slots i None ≡ Some p
 -- Each place that has none has one among the pieces that are left.
 abbrev pub AreAwaited : {P : Type 0} → List (Option P) → ℕ → List (Numbered P) → Type 0
 AreAwaited slots count left = (i : ℕ) → i < count → get_or slots i None ≡ None → 1 ≤ times i (indices_of left)
+
+-- Each worker has come to the end.
+abbrev pub AreDone : {K P : Type 0} → (ℕ → P → Type 0) → (K → ℕ → K → Type 0) → Counted → Queued → List (Worker K P) → List (Worker K P) → Type 0
+AreDone gives step claims tickets [] [] = Unit {0}
+AreDone gives step claims tickets [] (v ∷ after) = ⊥
+AreDone gives step claims tickets (w ∷ before) [] = ⊥
+AreDone gives step claims tickets (w ∷ before) (v ∷ after) = IsDone gives step claims tickets w.kit v × AreDone gives step claims tickets before after

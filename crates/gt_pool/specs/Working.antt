@@ -1,5 +1,5 @@
 -- What workers do: each index once, and a piece for each.
-use Rattle.std.specs.Prelude.{◌≡◌, ℕ, ◌<◌, List, [], ◌∷◌, length, map, Some, slice_get}
+use Rattle.std.specs.Prelude.{◌≡◌, ℕ, List, [], ◌∷◌, length, Some, slice_get}
 use Rattle.gt_pool.specs.Counting.{total, times, below}
 
 -- The work on these indices, one after the other, makes of one kit the other.

@@ -4,10 +4,11 @@
 mod claim_rule;
 mod claim_view;
 mod claims;
-mod numbered;
-mod placing;
 mod gathering;
 mod lists;
+mod numbered;
+mod placing;
+mod running;
 mod ticket_rule;
 mod ticket_view;
 mod tickets;
@@ -18,6 +19,7 @@ mod workers;
 
 pub use claim_view::ClaimView;
 pub use lists::{Kits, Pieces};
+pub use running::run_all;
 pub use ticket_view::TicketView;
 pub use tickets::{TicketPass, Tickets};
 pub use work::Work;

@@ -1,8 +1,6 @@
-use Rattle.std.proofs.Common.{◌≡◌, ◌∙◌, ℕ, ◌<◌, ◌≤◌, length, ap, replicate, arith, subst, sym}
+use Rattle.std.proofs.Common.{◌≡◌, ◌∙◌, ℕ, ◌<◌, length, ap, arith, subst, sym}
 use Rattle.std.proofs.lemmas.List.{length-replicate}
 use Rattle.std.specs.List.{AllByRecursion}
-use Rattle.gt_pool.specs.Counting.{times, below}
-use Rattle.gt_pool.specs.Workers.{indices_of}
 use Rattle.gt_pool.proofs.PlaceLemmas.{all_inside, all_in_order}
 use Rattle.gt_pool.proofs.placing.in_order.Goals as goal
 

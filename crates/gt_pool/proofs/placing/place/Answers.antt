@@ -1,4 +1,4 @@
-use Rattle.std.proofs.Common.{length, refl}
+use Rattle.std.proofs.Common.{length}
 use Rattle.gt_pool.proofs.PlaceLemmas.{one_placed}
 use Rattle.gt_pool.proofs.placing.place.Goals as goal
 

@@ -1,4 +1,4 @@
-use Rattle.std.proofs.Common.{rules, arith, ap, sym, ◌∙◌, ◌≡◌}
+use Rattle.std.proofs.Common.{rules}
 use Rattle.gt_pool.proofs.ClaimMoves.{splits}
 use Rattle.gt_pool.proofs.claims.Claims.split.Goals as goal
 

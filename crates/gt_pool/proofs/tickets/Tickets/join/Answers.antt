@@ -1,4 +1,3 @@
-use Rattle.std.proofs.Common.{rules, arith}
 use Rattle.gt_pool.proofs.TicketMoves.{joins}
 use Rattle.gt_pool.proofs.tickets.Tickets.join.Goals as goal
 

@@ -1,4 +1,3 @@
-use Rattle.std.proofs.Common.{rules, arith}
 use Rattle.gt_pool.proofs.TicketMoves.{begins}
 use Rattle.gt_pool.proofs.tickets.Tickets.new.Goals as goal
 

@@ -1,4 +1,3 @@
-use Rattle.std.proofs.Common.{rules, arith}
 use Rattle.gt_pool.proofs.TicketMoves.{puts}
 use Rattle.gt_pool.proofs.tickets.Tickets.put.Goals as goal
 

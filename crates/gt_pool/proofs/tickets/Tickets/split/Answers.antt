@@ -1,4 +1,4 @@
-use Rattle.std.proofs.Common.{rules, arith}
+use Rattle.std.proofs.Common.{rules}
 use Rattle.gt_pool.proofs.TicketMoves.{splits}
 use Rattle.gt_pool.proofs.tickets.Tickets.split.Goals as goal
 

@@ -1,4 +1,4 @@
-use Rattle.std.proofs.Common.{◌≡◌, ℕ, subst, sym}
+use Rattle.std.proofs.Common.{◌≡◌, ℕ, subst}
 use Rattle.gt_pool.specs.Counting.{times}
 use Rattle.gt_pool.specs.Known.{Ticketing}
 use Rattle.gt_pool.proofs.TicketMoves.{takes, learns, settled}
