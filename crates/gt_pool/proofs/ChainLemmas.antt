@@ -23,11 +23,11 @@ indices_more (y ∷ ys) x = ap (λ (is : List ℕ). y.index ∷ is) (indices_mor
 
 -- ---- a worker that has a piece more
 
-pub pieces_more : {P : Type 0} (xs ys : List (Numbered P)) (x : Numbered P) (is js : List ℕ) → ys ≡ xs ++ x ∷ [] → js ≡ is ++ x.index ∷ [] → is ≡ indices_of xs → js ≡ indices_of ys
-pieces_more xs ys x is js e f h = f ∙ ap (λ (ks : List ℕ). ks ++ x.index ∷ []) h ∙ sym (indices_more xs x) ∙ sym (ap indices_of e)
+pub pieces_more : {P : Type 0} (xs ys : List (Numbered P)) (x : Numbered P) (is js : List ℕ) (i : ℕ) → ys ≡ xs ++ x ∷ [] → js ≡ is ++ i ∷ [] → x.index ≡ i → is ≡ indices_of xs → js ≡ indices_of ys
+pieces_more xs ys x is js i e f same h = f ∙ ap (λ (k : ℕ). is ++ k ∷ []) (sym same) ∙ ap (λ (ks : List ℕ). ks ++ x.index ∷ []) h ∙ sym (indices_more xs x) ∙ sym (ap indices_of e)
 
-pub given_more : {P : Type 0} (gives : ℕ → P → Type 0) (xs ys : List (Numbered P)) (x : Numbered P) → ys ≡ xs ++ x ∷ [] → AreGiven gives xs → gives x.index x.piece → AreGiven gives ys
-given_more gives xs ys x e h one = subst (AreGiven gives) (sym e) (all_more (λ (y : Numbered _). gives y.index y.piece) xs x h one)
+pub given_more : {P : Type 0} (gives : ℕ → P → Type 0) (xs ys : List (Numbered P)) (x : Numbered P) → ys ≡ xs ++ x ∷ [] → AreGiven gives xs → (i : ℕ) → x.index ≡ i → gives i x.piece → AreGiven gives ys
+given_more gives xs ys x e h i same one = subst (AreGiven gives) (sym e) (all_more (λ (y : Numbered _). gives y.index y.piece) xs x h (subst (λ (k : ℕ). gives k x.piece) (sym same) one))
 
 pub run_more : {K : Type 0} (step : K → ℕ → K → Type 0) (a : K) (is js : List ℕ) (b : K) (i : ℕ) (c : K) → js ≡ is ++ i ∷ [] → Chain step a is b → step b i c → Chain step a js c
 run_more step a is js b i c e h one = subst (λ (ks : List ℕ). Chain step a ks c) (sym e) (chain_more step a is b i c h one)

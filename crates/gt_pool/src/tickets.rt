@@ -75,6 +75,17 @@ impl Tickets {
         // So by whoever has all parts, each ticket that was put was taken.
         ensures all { result ≡ None → pass.old.parts ≡ 1024 → (p : ℕ) → times p pass.old.put ≡ times p pass.old.taken }
     {
+        self.first(rt, pass)
+    }
+
+    fn first<R: Wait>(&self, rt: &R, pass: &mut TicketPass) -> Option<u8>
+        requires { pass.old.of ≡ self.now }
+        ensures taken { MatchOption result (pass.new ≡ pass.old) (λ p. IsTicket p × (pass.new ≡ record { of = self.now; parts = pass.old.parts; put = pass.old.put; taken = pass.old.taken ++ p ∷ [] })) }
+        // At a step of the call the queue held nothing.
+        ensures empty { IfNone result (Held (view pass.old.parts pass.old.put pass.old.taken) []) }
+        // So by whoever has all parts, each ticket that was put was taken.
+        ensures all { result ≡ None → pass.old.parts ≡ 1024 → (p : ℕ) → times p pass.old.put ≡ times p pass.old.taken }
+    {
         self.queue.pop_as::<Take, R>(rt, &mut pass.pass)
     }
 

@@ -18,6 +18,27 @@ pub struct Worker<K, P> {
     pub(crate) short: bool,
 }
 
+/// The work on one index, with its number.
+fn piece_of<R: Wait, W: Work, G: Gate>(
+    rt: &R,
+    work: &W,
+    gate: &G,
+    tickets: &Tickets,
+    kit: &mut W::Kit,
+    pass: &mut TicketPass,
+    index: u32,
+) -> Numbered<W::Piece>
+    requires index { index < W.size work.now }
+    requires pass { pass.old.of ≡ tickets.now }
+    ensures index { result.index ≡ index }
+    ensures piece { W.gives work.now index result.piece }
+    ensures kit { W.steps work.now kit.old index kit.new }
+    ensures pass { pass.new.of ≡ tickets.now }
+{
+    let piece = work.run(rt, index, kit, tickets, pass, gate);
+    Numbered { index, piece }
+}
+
 /// Claims one index and does the work on it. False where none is left, or memory for its piece ran out.
 fn work_once<R: Wait, W: Work, G: Gate>(
     rt: &R,
@@ -38,8 +59,16 @@ fn work_once<R: Wait, W: Work, G: Gate>(
     let Some(index) = claims.claim(&mut worker.claimer) else {
         return false;
     };
-    let piece = work.run(rt, index, &mut worker.kit, tickets, &mut worker.pass, gate);
-    match worker.pieces.push(Numbered { index, piece }) {
+    let piece = piece_of(
+        rt,
+        work,
+        gate,
+        tickets,
+        &mut worker.kit,
+        &mut worker.pass,
+        index,
+    );
+    match worker.pieces.push(piece) {
         Ok(()) => true,
         Err(_) => {
             worker.short = true;

@@ -2,7 +2,7 @@ use Rattle.std.proofs.Common.{◌≡◌, ℕ, subst}
 use Rattle.gt_pool.specs.Counting.{times}
 use Rattle.gt_pool.specs.Known.{Ticketing}
 use Rattle.gt_pool.proofs.TicketMoves.{takes, learns, settled}
-use Rattle.gt_pool.proofs.tickets.Tickets.take.Goals as goal
+use Rattle.gt_pool.proofs.tickets.Tickets.first.Goals as goal
 
 pub pop_as-requires-clause-rule : goal.pop_as-requires-clause-rule
 pop_as-requires-clause-rule g c = (takes _ _ c.pass.invariant.2, learns _ _)
