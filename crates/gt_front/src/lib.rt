@@ -10,6 +10,3 @@ mod view;
 pub use history::{History, Owner, Reader};
 pub use told::Told;
 pub use view::View;
-
-#[cfg(test)]
-mod tests;

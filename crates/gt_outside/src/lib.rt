@@ -1,11 +1,14 @@
-//! The outside as traits: input, output and the disks, each with a count of faults. And objects in memory for each.
+//! The outside as traits: input, output and the disks, each with a count of faults, and a gate between requests. And objects in
+//! memory for each.
 #![tactic(auto)]
 
 mod failing;
+mod gate;
 mod host;
 mod mem_host;
 mod mem_sink;
 mod mem_source;
+mod no_gate;
 mod place;
 mod reading;
 mod sink;
@@ -14,10 +17,12 @@ mod steady_sink;
 mod steady_source;
 mod writing;
 
+pub use gate::Gate;
 pub use host::Host;
 pub use mem_host::MemHost;
 pub use mem_sink::MemSink;
 pub use mem_source::MemSource;
+pub use no_gate::NoGate;
 pub use reading::{ReadError, read_whole};
 pub use sink::Sink;
 pub use source::Source;

@@ -1,8 +1,5 @@
-use Rattle.std.proofs.Common.{rules, arith, ap, sym, subst, ◌∙◌, ◌≡◌, List}
-use mathlib.Core.List.{IsPrefix}
-use Rattle.gt_model.specs.declared.entry.Entry.{Entry}
-use Rattle.gt_front.specs.declared.view.View.{View}
-use Rattle.gt_front.proofs.Moves.{begins, loads, checks, publishes, splits, joins, met}
+use Rattle.std.proofs.Common.{rules, ap}
+use Rattle.gt_front.proofs.Moves.{loads}
 use Rattle.gt_front.proofs.history.History.load.Goals as goal
 
 pub load-requires : goal.load-requires

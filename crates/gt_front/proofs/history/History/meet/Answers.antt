@@ -1,9 +1,6 @@
-use Rattle.std.proofs.Common.{rules, arith, ap, sym, subst, ◌∙◌, ◌≡◌, List, length}
-use mathlib.Core.List.{IsPrefix}
-use Rattle.gt_model.specs.declared.entry.Entry.{Entry}
-use Rattle.gt_front.specs.declared.view.View.{View}
+use Rattle.std.proofs.Common.{rules, arith, ap, ◌∙◌, length}
 use Rattle.gt_front.specs.Views.{both}
-use Rattle.gt_front.proofs.Moves.{begins, loads, checks, publishes, splits, joins, met}
+use Rattle.gt_front.proofs.Moves.{loads, splits, joins, met}
 use Rattle.gt_front.proofs.history.History.meet.Goals as goal
 
 pub split_seat-copy-requires : goal.split_seat-copy-requires

@@ -1,8 +1,7 @@
-use Rattle.std.proofs.Common.{rules, arith, ap, sym, subst, ◌∙◌, ◌≡◌, List, length}
+use Rattle.std.proofs.Common.{rules, arith, ap, sym, subst, List, length}
 use mathlib.Core.List.{IsPrefix}
 use Rattle.gt_model.specs.declared.entry.Entry.{Entry}
-use Rattle.gt_front.specs.declared.view.View.{View}
-use Rattle.gt_front.proofs.Moves.{begins, loads, checks, publishes, splits, joins, met}
+use Rattle.gt_front.proofs.Moves.{publishes}
 use Rattle.gt_front.proofs.history.History.publish_list.Goals as goal
 
 pub swap-requires : goal.swap-requires

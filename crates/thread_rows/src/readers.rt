@@ -1,16 +1,15 @@
+//! A history with its owner and readers.
 ghost use Rattle.std.specs.Prelude.{◌≡◌, ◌+◌, ◌≤◌, ◌<◌, ◌^◌, [], ◌∷◌, ◌++◌, length, vec_len, IfOk};
-ghost use mathlib.Core.List.{IsPrefix};
 
-use crate::{History, Owner, Reader, Told};
-use gt_list::NoMemory;
+use gt_front::{History, Owner, Reader, Told};
 use gt_model::{Change, Entry};
 use gt_name::RepoPath;
 use std::alloc::{AllocError, Global};
 use std::sync::Wait;
-use std::test::*;
-use std::thread;
 use std::thread::Threads;
+use std::{io, thread};
 
+/// A log of entries, as the owner of a history has it.
 #[derive(Drop)]
 struct Log {
     first: u64,
@@ -39,9 +38,18 @@ impl Log {
     }
 }
 
-fn created(alloc: Global, position: u64) -> Result<Entry, NoMemory> {
+fn empty_log(alloc: Global) -> Log
+    ensures { (result.first ≡ 0) × (result.updates.items ≡ []) }
+{
+    Log {
+        first: 0,
+        updates: Vec::new(alloc),
+    }
+}
+
+fn created(alloc: Global, position: u64) -> Result<Entry, AllocError> {
     let Ok(path) = RepoPath::parse(alloc, b"a.git") else {
-        return Err(NoMemory);
+        return Err(AllocError);
     };
     Ok(Entry {
         position,
@@ -50,7 +58,7 @@ fn created(alloc: Global, position: u64) -> Result<Entry, NoMemory> {
     })
 }
 
-// What the two readers saw.
+/// What the two readers saw.
 #[derive(Drop)]
 struct Watched {
     early: u64,
@@ -60,7 +68,7 @@ struct Watched {
     second: Reader,
 }
 
-// A third entry is published beside two readers. One that only loads has two entries still, and one that meets the owner has three.
+/// A third entry is published beside two readers. One that only loads has two entries still, and one that meets the owner has three.
 fn watch(
     history: &History,
     owner: &mut Owner,
@@ -95,23 +103,29 @@ fn watch(
     })
 }
 
-#[test]
-fn a_reader_has_what_it_met(rt: HostRuntime) -> Result<(), Fail> {
-    let (history, mut owner) = History::new(rt.alloc(), 0)?;
-    let mut log = Log {
-        first: 0,
-        updates: Vec::new(rt.alloc()),
+/// Two entries are made, and then a third beside the readers.
+fn third_beside(alloc: Global) -> Result<Watched, AllocError> {
+    let (history, mut owner) = match History::new(alloc, 0) {
+        Ok(made) => made,
+        Err(_) => return Err(AllocError),
     };
-    log.push(created(rt.alloc(), 1)?)?;
-    log.push(created(rt.alloc(), 2)?)?;
-    let third = created(rt.alloc(), 3)?;
-    let seen = watch(&history, &mut owner, log, third)?;
-    assert_eq!(rt; seen.early, 2);
-    assert_eq!(rt; seen.late, 3);
-    Ok(())
+    let mut log = empty_log(alloc);
+    log.push(created(alloc, 1)?)?;
+    log.push(created(alloc, 2)?)?;
+    watch(&history, &mut owner, log, created(alloc, 3)?)
 }
 
-// A reader loads in one thread while the owner publishes in another. Then they meet.
+pub(crate) fn readers_row<R: Threads + Wait + Print + Sync>(
+    rt: &R,
+    alloc: Global,
+) -> io::Result<()> {
+    match third_beside(alloc) {
+        Ok(seen) => println!(rt; "loads {} and {}", seen.early, seen.late),
+        Err(_) => println!(rt; "no memory"),
+    }
+}
+
+/// A reader loads in one thread while the owner publishes in another. Then they meet.
 fn beside<R: Threads + Sync>(
     rt: &R,
     history: &History,
@@ -148,16 +162,27 @@ fn beside<R: Threads + Sync>(
     (loaded, reader)
 }
 
-#[test]
-fn a_reader_loads_beside_the_owner(rt: HostRuntime) -> Result<(), Fail> {
-    let (history, mut owner) = History::new(rt.alloc(), 0)?;
-    let mut log = Log {
-        first: 0,
-        updates: Vec::new(rt.alloc()),
+/// One entry is published beside a reader.
+fn loaded_beside<R: Threads + Wait + Sync>(rt: &R, alloc: Global) -> Result<u64, AllocError>
+    ensures { IfOk result (λ n. n ≤ 1) }
+{
+    let (history, mut owner) = match History::new(alloc, 0) {
+        Ok(made) => made,
+        Err(_) => return Err(AllocError),
     };
-    log.push(created(rt.alloc(), 1)?)?;
+    let mut log = empty_log(alloc);
+    log.push(created(alloc, 1)?)?;
     let reader = history.reader(&mut owner);
-    let (loaded, _reader) = beside(&rt, &history, owner, reader, &log);
-    assert!(rt; loaded <= 1);
-    Ok(())
+    let (loaded, _reader) = beside(rt, &history, owner, reader, &log);
+    Ok(loaded)
+}
+
+pub(crate) fn beside_row<R: Threads + Wait + Print + Sync>(
+    rt: &R,
+    alloc: Global,
+) -> io::Result<()> {
+    match loaded_beside(rt, alloc) {
+        Ok(loaded) => println!(rt; "at most 1: {}", loaded <= 1),
+        Err(_) => println!(rt; "no memory"),
+    }
 }
