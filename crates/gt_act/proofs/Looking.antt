@@ -1,5 +1,5 @@
 -- What a live transaction reads is what the machine answers.
-use Rattle.std.proofs.Common.{◌≡◌, ◌⊎◌, inl, inr, ℕ, Bool, true, false, ◌&&◌, is_some, IsTrue, List, Option, Some, None, Result, Ok, Err, refl, sym, ap, subst, ◌∙◌}
+use Rattle.std.proofs.Common.{◌≡◌, inl, inr, ℕ, Bool, true, false, ◌&&◌, is_some, List, Option, Some, None, Result, Ok, Err, refl, sym, ap, subst, ◌∙◌}
 use Rattle.sha1.specs.Sha1.{sha1}
 use Rattle.gt_disk.specs.declared.file_id.FileId.{FileId}
 use Rattle.gt_model.specs.declared.done.Done.{Done}
@@ -10,7 +10,7 @@ use Rattle.gt_model.specs.declared.reference.RefValue.{RefValue}
 use Rattle.gt_model.specs.declared.refusal.Refusal.{Refusal}
 use Rattle.gt_model.specs.declared.refusal.Refusal.TheVariants.{Absent, Memory, DeviceFault, Damaged}
 use Rattle.gt_model.specs.Contents.{value, found, is_visible}
-use Rattle.gt_model.specs.Machine.{State, Pin, Step, StepOnAny, Ends, Fails, Acts, Effect, effect, reads_object, is_live, pin_of, content_of, references, object}
+use Rattle.gt_model.specs.Machine.{State, Pin, Step, Ends, Fails, effect, reads_object, is_live, pin_of, content_of, references, object}
 use Rattle.gt_model.specs.Verdicts.{refs_in}
 use Rattle.gt_objset.specs.declared.place.Place.{Place}
 use Rattle.gt_table.specs.Table.{content_at, place_at}

@@ -36,7 +36,11 @@ pub fn cat<D: Disk>(
     ensures quiet { IsTrue D.tells → Quiet (D.view disk.old) (D.view disk.new) }
 {
     let live = book.live.get(pin);
-    let Some(place) = book.journal.table().place_at(live.position, &live.path, name) else {
+    let Some(place) = book
+        .journal
+        .table()
+        .place_at(live.position, &live.path, name)
+    else {
         return Reply::of(Ended::Absent { name: *name });
     };
     match fetch(alloc, disk, place, name) {

@@ -20,25 +20,26 @@ pub fn get_ref(limits: &Limits, book: &Book, pin: &Pin, name: &RefName) -> Ended
 {
     let live = book.live.get(pin);
     Ended::Value {
-        value: book.journal.table().value_at(live.position, &live.path, name),
+        value: book
+            .journal
+            .table()
+            .value_at(live.position, &live.path, name),
     }
 }
 
 /// The references whose names begin so, at the position of a transaction.
-pub fn list_refs(
-    alloc: Global,
-    limits: &Limits,
-    book: &Book,
-    pin: &Pin,
-    prefix: &[u8],
-) -> Reply
+pub fn list_refs(alloc: Global, limits: &Limits, book: &Book, pin: &Pin, prefix: &[u8]) -> Reply
     requires { is_live book.now.live pin.now ≡ true }
     ensures step { Step limits.now (state_of book.now) (Event.ListRefs pin.now prefix.now) result.answer (state_of book.now) }
     ensures kept { IsKeptOf (state_of book.now) (Event.ListRefs pin.now prefix.now) result }
     ensures sure { is_faulty result.answer ≡ false }
 {
     let live = book.live.get(pin);
-    match book.journal.table().list_at(alloc, live.position, &live.path, prefix) {
+    match book
+        .journal
+        .table()
+        .list_at(alloc, live.position, &live.path, prefix)
+    {
         Ok(list) => Reply {
             answer: Ok(Done::Refs { list }),
             kept: Ended::Finished {

@@ -1,6 +1,6 @@
 -- What is promised of a call, from what its parts say.
-use Rattle.std.proofs.Common.{◌≡◌, inl, inr, ℕ, ◌+◌, ◌≤◌, Bool, true, false, List, [], ◌∷◌, ◌++◌, Option, Result, Ok, Err, refl, sym, ◌∙◌, ap, subst, arith, IsTrue}
-use Rattle.gt_disk.specs.Files.{States, View, now, Rose, Quiet}
+use Rattle.std.proofs.Common.{◌≡◌, inl, inr, ℕ, ◌+◌, ◌≤◌, Bool, false, List, [], ◌∷◌, ◌++◌, Result, Ok, Err, refl, sym, ◌∙◌, ap, subst, arith, IsTrue}
+use Rattle.gt_disk.specs.Files.{View}
 use Rattle.gt_model.specs.declared.done.Done.{Done}
 use Rattle.gt_model.specs.declared.event.Event.{Event}
 use Rattle.gt_model.specs.declared.event.Event.TheVariants.{Create, Delete, Link, Begin, GetRef, ListRefs, Cat, Commit, Abort, HouseOpen, HouseStep, HouseCommit, Apply, Trim, Sweep}
@@ -21,7 +21,7 @@ use Rattle.gt_base.specs.Histories.{Moves, IsHistory}
 use Rattle.gt_base.proofs.Images.{recovered_legal, stored_gives}
 use Rattle.gt_part.specs.Called.{Called, Acted, Stepped, reads_object, own_calls}
 use Rattle.gt_act.specs.Causes.{CallCause, IsLike, settling_calls}
-use Rattle.gt_part.specs.Shown.{Shown, memory, Stands, HasRun, Continues, OneEvent, Records, turn_of}
+use Rattle.gt_part.specs.Shown.{Shown, memory, Stands, HasRun, Continues, OneEvent, turn_of}
 use Rattle.gt_act.proofs.Causes.{sure_cause}
 use Rattle.gt_act.proofs.Stepping.{stops}
 use Rattle.gt_part.proofs.Histories.{counts_more, continues}
@@ -135,12 +135,12 @@ module _ {D : Type 0} (tells : Bool) (view : D → View) (fault_count call_count
           let moved : Moves old.limits s (memory new) (view old.disk) (view new.disk) = subst (λ (s : State). Moves old.limits s (memory new) (view old.disk) (view new.disk)) here (moves t) in
           let stepped : Step old.limits s e answer (memory new) = subst (λ (s : State). Step old.limits s e answer (memory new)) here (tells_step t start begin history run) in
           let more : IsHistory old.limits start begin (event turn (memory new) ∷ history) (view new.disk) (old.trail ++ turn ∷ []) =
-                  runs.event_more (recover old.limits) Keeps counters (recovered_legal old.limits) (Stored old.limits) (stored_gives old.limits) old.limits start begin history (view old.disk) old.trail run.1 (view new.disk) (memory new) turn refl known (answer, stepped, refl) moved in
+          runs.event_more (recover old.limits) Keeps counters (recovered_legal old.limits) (Stored old.limits) (stored_gives old.limits) old.limits start begin history (view old.disk) old.trail run.1 (view new.disk) (memory new) turn refl known (answer, stepped, refl) moved in
           let past : KeepsPast (view old.disk) (view new.disk) =
-                  runs.past_event (recover old.limits) Keeps counters (recovered_legal old.limits) (Stored old.limits) (stored_gives old.limits) old.limits start begin history (view old.disk) old.trail run.1 (view new.disk) (memory new) moved in
+          runs.past_event (recover old.limits) Keeps counters (recovered_legal old.limits) (Stored old.limits) (stored_gives old.limits) old.limits start begin history (view old.disk) old.trail run.1 (view new.disk) (memory new) moved in
           let whole : IsHistory new.limits start begin (event turn (memory new) ∷ history) (view new.disk) new.trail =
-                  subst (λ (l : Limits). IsHistory l start begin (event turn (memory new) ∷ history) (view new.disk) new.trail) (sym limits)
-                  (subst (λ (tr : List Turn). IsHistory old.limits start begin (event turn (memory new) ∷ history) (view new.disk) tr) (sym (trail_at s here)) more) in
+          subst (λ (l : Limits). IsHistory l start begin (event turn (memory new) ∷ history) (view new.disk) new.trail) (sym limits)
+          (subst (λ (tr : List Turn). IsHistory old.limits start begin (event turn (memory new) ∷ history) (view new.disk) tr) (sym (trail_at s here)) more) in
           continues view start begin history (OneEvent old.limits who e answer (view new.disk).clock s) (event turn (memory new) ∷ []) old new limits
           (record { after = (memory new); step = stepped; happened = inl refl }) past (refl, whole)
 

@@ -2,13 +2,13 @@
 use Rattle.std.proofs.Common.{◌≡◌, ◌⊎◌, inl, inr, ⊎_elim, ℕ, ◌+◌, ◌<◌, ◌≤◌, List, [], ◌∷◌, ◌++◌, length, length-append, Option, Some, None, Result, Ok, Err, refl, sym, ◌∙◌, ap, subst, arith, IsTrue, append_assoc, IfOk, IfErr, ◌-◌, ◌^◌, min, Bool, true, false}
 use Rattle.std.specs.Prelude.{if◌then◌else◌}
 use Rattle.std.proofs.lemmas.Bool.{cases_lt}
-use Rattle.gt_disk.specs.Files.{Files, States, View, now, IsImage, Rose}
+use Rattle.gt_disk.specs.Files.{View, now, IsImage, Rose}
 use Rattle.gt_disk.specs.Moments.{Since, Narrows}
 use Rattle.gt_log.specs.declared.mount_error.MountError.{MountError}
 use Rattle.gt_model.specs.declared.entry.Entry.{Entry}
 use Rattle.gt_model.specs.declared.limits.Limits.{Limits}
 use Rattle.gt_model.specs.declared.turn.Turn.{Turn}
-use Rattle.gt_model.specs.Machine.{State, Pin, Recovered, Settles, MayRecover, opening, unapplied, with_doubt, is_faulty}
+use Rattle.gt_model.specs.Machine.{State, Pin, Settles, MayRecover, opening, unapplied, with_doubt, is_faulty}
 use Rattle.gt_model.specs.Histories.{Happening, opened, last_state}
 use Rattle.gt_model.specs.Contents.{nothing}
 use Rattle.gt_sound.specs.Sound.{IsSoundState}
@@ -21,7 +21,7 @@ use Rattle.gt_base.specs.Ledger.{Ledger, StoredBy, Stored, state_of}
 use Rattle.gt_base.specs.Histories.{IsGood, Gives, Holds, IsHistory}
 use Rattle.gt_base.proofs.Images.{recovered_legal, stored_gives, by_stored}
 use Rattle.gt_part.specs.Mounts.{Mounts}
-use Rattle.gt_part.specs.Shown.{Shown, memory, Stands, HasRun, Continues, OneOpening, faults_in}
+use Rattle.gt_part.specs.Shown.{Shown, memory, HasRun, Continues, OneOpening, faults_in}
 
 module _ (limits : Limits) (start : State) (begin : ℕ) (history : List Happening) (v : View) (trail : List Turn) (going : IsHistory limits start begin history v trail) where
   pub holds_now : Holds limits start begin history v
@@ -82,11 +82,11 @@ module _ {D : Type 0} (view : D → View) (start : State) (begin : ℕ) (history
       let since : Since (IsGood old.limits) v (view p.disk) = subst (λ (d : D). Since (IsGood old.limits) (view d) (view p.disk)) same (moments here) in
       let stored : Stored old.limits (opening r) (now (view p.disk)) = subst (λ (s : State). Stored old.limits s (now (view p.disk))) mounts.2 (subst (λ (l : Limits). Stored l (memory p) (now (view p.disk))) limits (good here).1.stored) in
       let more : IsHistory old.limits start begin (opened (view p.disk).clock (opening r) ∷ history) (view p.disk) [] =
-              runs.opened_more (recover old.limits) Keeps counters (recovered_legal old.limits) (Stored old.limits) (stored_gives old.limits) old.limits start begin history v old.trail run.1 (view p.disk) r may narrowed since stored in
+      runs.opened_more (recover old.limits) Keeps counters (recovered_legal old.limits) (Stored old.limits) (stored_gives old.limits) old.limits start begin history v old.trail run.1 (view p.disk) r may narrowed since stored in
       let whole : IsHistory p.limits start begin (opened (view p.disk).clock (memory p) ∷ history) (view p.disk) p.trail =
-              subst (λ (l : Limits). IsHistory l start begin (opened (view p.disk).clock (memory p) ∷ history) (view p.disk) p.trail) (sym limits)
-              (subst (λ (t : List Turn). IsHistory old.limits start begin (opened (view p.disk).clock (memory p) ∷ history) (view p.disk) t) (sym empty)
-              (subst (λ (s : State). IsHistory old.limits start begin (opened (view p.disk).clock s ∷ history) (view p.disk) []) (sym mounts.2) more)) in
+      subst (λ (l : Limits). IsHistory l start begin (opened (view p.disk).clock (memory p) ∷ history) (view p.disk) p.trail) (sym limits)
+      (subst (λ (t : List Turn). IsHistory old.limits start begin (opened (view p.disk).clock (memory p) ∷ history) (view p.disk) t) (sym empty)
+      (subst (λ (s : State). IsHistory old.limits start begin (opened (view p.disk).clock s ∷ history) (view p.disk) []) (sym mounts.2) more)) in
       ((r, may, mounts.2), continues view start begin history (OneOpening (view p.disk).clock (memory p)) (opened (view p.disk).clock (memory p) ∷ []) old p limits refl (runs.past_since _ v (view p.disk) narrowed) (refl, whole))
 
   restarted : (result : Result (Shown D) (MountError D)) → IfOk result (λ p. p.limits ≡ old.limits) → Mounts (recover old.limits (view disk).reads) result → IfOk result (λ p. p.trail ≡ []) → IfOk result (λ p. Narrows (view disk) (view p.disk))

@@ -1,7 +1,6 @@
 -- How an opening ends.
-use Rattle.std.specs.Prelude.{◌≡◌, ◌≢◌, ℕ, ◌≤◌, List, Result, Ok, Err}
+use Rattle.std.specs.Prelude.{◌≡◌, ◌≢◌, ℕ, ◌≤◌, Result, Ok, Err}
 use Rattle.gt_disk.specs.Files.{Rose}
-use Rattle.gt_log.specs.declared.mount_cause.MountCause.{MountCause}
 use Rattle.gt_log.specs.declared.mount_cause.MountCause.TheVariants.{DeviceFault}
 use Rattle.gt_log.specs.declared.mount_error.MountError.{MountError}
 use Rattle.gt_model.specs.Machine.{Recovered, opening}

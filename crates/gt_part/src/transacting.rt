@@ -7,8 +7,8 @@ ghost use Rattle.gt_act.specs.Cat.{IsNamedSo, CatGives};
 ghost use Rattle.gt_act.specs.Live.{GivesPin, EndsBy};
 ghost use Rattle.gt_part.specs.Shown.{memory, pins_of};
 
-use crate::noting::{note, take_room};
 use crate::Partition;
+use crate::noting::{note, take_room};
 use gt_act::{Ended, Reply, abort, begin, cat, commit, get_ref, list_refs};
 use gt_disk::Disk;
 use gt_list::ListOf;

@@ -4,7 +4,7 @@ use Rattle.gt_model.specs.Machine.{is_empty, is_live_as, is_transaction}
 use Rattle.gt_pins.proofs.Positions.{reads_later}
 use Rattle.gt_act.specs.Book.{state_of}
 use Rattle.gt_act.specs.Ended.{answer_of}
-use Rattle.gt_act.proofs.Stepping.{then_acts, fails_first, settling_moves, settled_moves, fewer_by, finish_steps, nothing_staged}
+use Rattle.gt_act.proofs.Stepping.{then_acts, settling_moves, settled_moves, fewer_by, finish_steps}
 use Rattle.gt_act.proofs.committing.commit.Goals as goal
 
 pub invariant_of-book : goal.invariant_of-book

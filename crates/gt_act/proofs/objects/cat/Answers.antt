@@ -1,8 +1,7 @@
-use Rattle.std.proofs.Common.{◌≡◌, length, nat_eq, is_some, Option, Some, Result, Ok, Err, refl, sym, ap, subst, ◌∙◌}
+use Rattle.std.proofs.Common.{◌≡◌, length, nat_eq, is_some, Option, Result, Ok, refl, sym, ap, subst, ◌∙◌}
 use Rattle.gt_model.specs.declared.done.Done.{Done}
 use Rattle.gt_model.specs.declared.done.Done.TheVariants.{Finished}
 use Rattle.gt_model.specs.declared.refusal.Refusal.{Refusal}
-use Rattle.gt_model.specs.declared.refusal.Refusal.TheVariants.{Damaged}
 use Rattle.gt_model.specs.Machine.{Pin, pin_of as pin_in}
 use Rattle.gt_objset.specs.declared.place.Place.{Place}
 use Rattle.gt_pins.specs.Live.{pin_of}
@@ -90,7 +89,7 @@ returns-in-Err-Damaged-clause-gives g c told =
     let at = sym (rw c.table.ensures at c.place_at.ensures.place) ∙ c.in-Some.is in
     let fetches = rw c.in-Err-Damaged.field-0-is at c.in-Err-Damaged.ensures.fetches in
     let held = held_so limits l pins c.args.pin.now c.requires p here c.args.name.now c.in-Some.place (λ (place : Place). (c.in-Some.place.file ≡ place.file) × (c.in-Some.place.at ≡ place.at) × (IsRecordOf c.args.name.now (piece (files place.file) place) → ⊥)) at
-            (refl, refl, fetches told) in
+    (refl, refl, fetches told) in
     subst (λ (a : Result Done Refusal). CatGives (state_of c.args.book.now) c.args.pin.now c.args.name.now files a) (sym c.of-in-Err-Damaged.ensures.answer) held
 
 pub returns-in-Err-Memory-clause-happens : goal.returns-in-Err-Memory-clause-happens

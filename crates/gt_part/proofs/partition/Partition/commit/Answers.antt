@@ -1,4 +1,4 @@
-use Rattle.std.proofs.Common.{◌≡◌, List, Some, true, false, sym, ◌∙◌, refl, ap, subst}
+use Rattle.std.proofs.Common.{◌≡◌, List, Some, true, sym, ◌∙◌, refl, ap, subst}
 use Rattle.gt_model.specs.Machine.{State, Pin, is_live}
 use Rattle.gt_part.specs.Shown.{memory}
 use Rattle.gt_act.specs.Live.{ends}

@@ -1,5 +1,5 @@
-use Rattle.std.proofs.Common.{◌≡◌, List, refl, sym, ap, ◌∙◌}
-use Rattle.gt_model.specs.Machine.{Pin, is_live, is_live_as, is_transaction}
+use Rattle.std.proofs.Common.{refl, sym, ap, ◌∙◌}
+use Rattle.gt_model.specs.Machine.{is_live, is_live_as, is_transaction}
 use Rattle.gt_part.specs.Shown.{Shown}
 use Rattle.gt_part.proofs.Calling.{same_called}
 use Rattle.gt_part.proofs.partition.Partition.commit_by.Goals as goal

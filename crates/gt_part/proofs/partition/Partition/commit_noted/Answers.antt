@@ -1,6 +1,6 @@
-use Rattle.std.proofs.Common.{◌≡◌, List, refl, ap, ◌∙◌}
+use Rattle.std.proofs.Common.{◌≡◌, refl, ap, ◌∙◌}
 use Rattle.gt_model.specs.declared.event.Event.TheVariants.{Commit}
-use Rattle.gt_model.specs.Machine.{Pin, is_live}
+use Rattle.gt_model.specs.Machine.{is_live}
 use Rattle.gt_part.specs.Shown.{Shown}
 use Rattle.gt_part.proofs.Calling.{called, not_called}
 use Rattle.gt_part.proofs.partition.Partition.commit_noted.Goals as goal

@@ -1,4 +1,4 @@
-use Rattle.std.proofs.Common.{◌≡◌, refl, ap, ◌∙◌, arith}
+use Rattle.std.proofs.Common.{refl}
 use Rattle.gt_part.proofs.Calling.{same_called}
 use Rattle.gt_part.proofs.partition.Partition.delete.Goals as goal
 
