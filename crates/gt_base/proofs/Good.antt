@@ -1,10 +1,10 @@
 -- Disks that may be handed in, and what is opened of them.
-use Rattle.std.proofs.Common.{◌≡◌, ◌≢◌, inl, inr, ℕ, ◌+◌, ◌<◌, ◌≤◌, Bool, cond, nat_lt, false, List, [], length, map, Some, None, Ok, Err, refl, sym, ◌∙◌, ap, subst, arith}
+use Rattle.std.proofs.Common.{◌≡◌, ◌≢◌, inl, inr, ℕ, ◌+◌, ◌≤◌, Bool, cond, nat_lt, false, List, [], length, map, None, Ok, Err, refl, sym, ◌∙◌, ap, subst, arith}
 use Rattle.std.proofs.lemmas.Bool.Decides.{nat_tests}
 use Rattle.std.proofs.lemmas.List.{length-map}
 use Rattle.gt_disk.specs.declared.file_id.FileId.{FileId}
 use Rattle.gt_disk.specs.Files.{Content as FileContent, Files, FileState, States, View, now, IsImage, still, Quiet}
-use Rattle.gt_disk.specs.Kinds.{gate_file, turn_file, entry_file}
+use Rattle.gt_disk.specs.Kinds.{gate_file, entry_file}
 use Rattle.gt_disk.specs.Moments.{Since, Narrows, Runs, Lasting}
 use Rattle.gt_disk.proofs.Steps.{since_quiet}
 use Rattle.gt_log.specs.Log.{Stands, KeepsEntries, Recovers}
@@ -17,13 +17,12 @@ use Rattle.gt_sound.proofs.Logs.{empty_sound}
 use Rattle.gt_history.specs.Crash.{IsSteady}
 use Rattle.gt_history.proofs.Safe.{same_ok}
 use Rattle.gt_history.proofs.Runs as runs
-use Rattle.gt_base.specs.Ledger.{Ledger, StoredBy, Stored, state_of}
+use Rattle.gt_base.specs.Ledger.{Stored}
 use Rattle.gt_base.specs.Recovery.{recover, recover_log, never_applied, Keeps, counters, IsKept}
 use Rattle.gt_base.specs.Histories.{IsGood}
 use Rattle.gt_base.specs.Spelling.{encode}
 use Rattle.gt_base.proofs.Steady.{turn_beside_gate}
 use Rattle.gt_base.proofs.Recovering.{recovered}
-use Rattle.gt_base.proofs.Images.{recovered_log}
 
 -- ---- moments at which no stop can leave anything new
 

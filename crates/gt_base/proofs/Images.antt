@@ -1,19 +1,18 @@
 -- What the images of a log's files give of the machine's state.
-use Rattle.std.proofs.Common.{◌≡◌, ◌⊎◌, inl, inr, ⊎_elim, true, ℕ, ◌+◌, List, [], ◌∷◌, ◌++◌, length, map, Option, Some, None, Result, Ok, Err, refl, sym, ◌∙◌, ap, subst, arith, length-append}
-use Rattle.gt_disk.specs.Files.{Files, States, IsImage}
+use Rattle.std.proofs.Common.{◌≡◌, ◌⊎◌, inl, inr, ⊎_elim, ◌+◌, List, [], ◌∷◌, ◌++◌, map, Option, Some, None, Result, Ok, Err, refl, sym, ap, subst}
+use Rattle.gt_disk.specs.Files.{Files, States}
 use Rattle.gt_disk.specs.Kinds.{gate_file, turn_file}
-use Rattle.gt_log.specs.Log.{Stands, Doubts, Adding, Staying}
 use Rattle.gt_model.specs.declared.entry.Entry.{Entry}
 use Rattle.gt_model.specs.declared.limits.Limits.{Limits}
-use Rattle.gt_model.specs.Contents.{nothing, IsLegal}
-use Rattle.gt_model.specs.Machine.{State, Pin, Recovered, opening, unapplied, with_doubt, SettledEntry, MayRecover}
+use Rattle.gt_model.specs.Contents.{IsLegal}
+use Rattle.gt_model.specs.Machine.{State, Pin, Recovered, unapplied, MayRecover}
 use Rattle.gt_history.specs.Crash.{IsSteady, AreSteady}
 use Rattle.gt_base.specs.Spelling.{encode}
-use Rattle.gt_base.specs.Recovery.{Damage, recover_log, never_applied, recover, Keeps, counters, IsKept}
-use Rattle.gt_base.specs.Ledger.{Ledger, line, state_of, FilesHave, StoredBy, ledger_of, Stored}
-use Rattle.gt_base.specs.Histories.{Gives, GivesThis, GivesEither}
-use Rattle.gt_base.proofs.Recovering.{GivesLog, kept_front, gives_as, stands_image, doubts_image, adding_image, recovered}
-use Rattle.gt_base.proofs.Steady.{stands_steady, doubts_steady, adding_steady, turn_kept}
+use Rattle.gt_base.specs.Recovery.{Damage, recover_log, never_applied, recover, Keeps, counters}
+use Rattle.gt_base.specs.Ledger.{Ledger, line, state_of, StoredBy, ledger_of, Stored}
+use Rattle.gt_base.specs.Histories.{Gives, GivesThis}
+use Rattle.gt_base.proofs.Recovering.{GivesLog, kept_front, stands_image, doubts_image, recovered}
+use Rattle.gt_base.proofs.Steady.{stands_steady, doubts_steady}
 
 -- ---- what is recovered
 

@@ -1,8 +1,8 @@
 -- The parts of a call, from what the log of a disk says of them.
-use Rattle.std.proofs.Common.{◌≡◌, ◌⊎◌, inl, inr, ⊎_elim, ℕ, ◌+◌, ◌<◌, ◌≤◌, max, Bool, true, false, List, [], ◌∷◌, ◌++◌, length, fold, map, Option, Some, None, Ok, refl, sym, ◌∙◌, ap, subst, arith, length-append}
+use Rattle.std.proofs.Common.{◌≡◌, ◌⊎◌, inl, inr, ⊎_elim, ℕ, ◌+◌, ◌<◌, ◌≤◌, max, Bool, true, false, List, [], ◌∷◌, ◌++◌, length, map, Option, Some, None, Ok, refl, sym, ◌∙◌, ap, subst, arith, length-append}
 use Rattle.std.proofs.lemmas.Bool.{cases_lt}
 use Rattle.std.proofs.lemmas.List.{length-map}
-use Rattle.gt_disk.specs.Files.{Files, States, View, now, IsImage}
+use Rattle.gt_disk.specs.Files.{States, View, now}
 use Rattle.gt_disk.specs.Kinds.{turn_file}
 use Rattle.gt_disk.specs.Moments.{Since}
 use Rattle.gt_disk.proofs.Steps.{since_none}
@@ -12,15 +12,15 @@ use Rattle.gt_model.specs.declared.change.Change.TheVariants.{Create, Delete, Li
 use Rattle.gt_model.specs.declared.entry.Entry.{Entry}
 use Rattle.gt_model.specs.declared.limits.Limits.{Limits}
 use Rattle.gt_model.specs.Batches.{file_of, next_past}
-use Rattle.gt_model.specs.Machine.{State, Pin, with_doubt, SettledEntry, with_entry, with_pins}
+use Rattle.gt_model.specs.Machine.{Pin, with_doubt, SettledEntry, with_entry, with_pins}
 use Rattle.gt_history.specs.Crash.{IsSteady}
 use Rattle.gt_history.proofs.Moves.{since_weaken}
 use Rattle.gt_table.specs.Built.{is_built, IsBuilt}
 use Rattle.gt_base.specs.Spelling.{encode}
 use Rattle.gt_base.specs.Recovery.{IsKept}
-use Rattle.gt_base.specs.Ledger.{Ledger, line, state_of, FilesHave, StoredBy, Stored}
-use Rattle.gt_base.specs.Histories.{Gives, GivesThis, GivesEither, Moves, Settling}
-use Rattle.gt_base.proofs.Recovering.{GivesLog, kept_front, stands_image, adding_image, map_last}
+use Rattle.gt_base.specs.Ledger.{Ledger, line, state_of, StoredBy, Stored}
+use Rattle.gt_base.specs.Histories.{GivesThis, GivesEither, Moves, Settling}
+use Rattle.gt_base.proofs.Recovering.{kept_front, stands_image, adding_image, map_last}
 use Rattle.gt_base.proofs.Steady.{stands_steady, adding_steady, turn_kept}
 use Rattle.gt_base.proofs.Images.{given, steady_by}
 

@@ -4,8 +4,6 @@ use Rattle.std.proofs.lemmas.List.{length-map, map-append}
 use Rattle.std.proofs.lemmas.Bool.Decides.{nat_tests}
 use Rattle.std.specs.Prelude.{bytes_eq}
 use Rattle.gt_entry.specs.Reading.{entry_of}
-use Rattle.gt_model.specs.declared.change.Change.{Change}
-use Rattle.gt_model.specs.declared.change.Change.TheVariants.{Create, Delete, Link, Write, Repack, Prune, PackRefs, Unlink}
 use Rattle.gt_disk.specs.Files.{Content as FileContent, Files, States, IsImage}
 use Rattle.gt_disk.specs.Kinds.{gate_file, entry_file}
 use Rattle.gt_log.specs.Log.{content_length, Recovers, KeepsEntries, Stands, Doubts, Adding}

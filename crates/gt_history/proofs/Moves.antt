@@ -1,10 +1,9 @@
 -- The parts of an event, one after the other.
-use Rattle.std.proofs.Common.{◌≡◌, ◌⊎◌, inl, inr, ⊎_elim, true, ℕ, List, Option, None, Result, Ok, refl, sym, ◌∙◌, ap, subst, arith}
+use Rattle.std.proofs.Common.{◌≡◌, inl, inr, ⊎_elim, true, ℕ, List, None, Result, sym, ◌∙◌, ap, subst, arith}
 use Rattle.gt_disk.specs.declared.file_id.FileId.{FileId}
-use Rattle.gt_disk.specs.Files.{Files, States, View, now, IsImage, Quiet}
+use Rattle.gt_disk.specs.Files.{Files, States, View, now, Quiet}
 use Rattle.gt_disk.specs.Moments.{Since}
 use Rattle.gt_disk.proofs.Steps.{since_join, since_none}
-use Rattle.gt_model.specs.declared.entry.Entry.{Entry}
 use Rattle.gt_model.specs.Machine.{State, Recovered, line, with_doubt, SettledEntry, MayRecover}
 use Rattle.gt_history.specs.Crash.{Gives, GivesThis, GivesEither}
 use Rattle.gt_history.specs.Runs.{Moves, Settling}

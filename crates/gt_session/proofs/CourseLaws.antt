@@ -11,7 +11,7 @@ use Rattle.gt_model.specs.declared.refusal.Refusal.TheVariants.{BadRef, BadPath,
 use Rattle.gt_model.specs.declared.who.Who.{Who}
 use Rattle.gt_stage.specs.Staging.{Holding, own_ref}
 use Rattle.gt_session.specs.Sessions.{Open, Session}
-use Rattle.gt_session.specs.Courses.{Turned, Course, refused, with_path, unless_open, alone, asks, reads, old_in, with_old, with_open, with_ref}
+use Rattle.gt_session.specs.Courses.{Turned, Course, refused, with_path, unless_open, alone, reads, old_in, with_old, with_open, with_ref}
 use Rattle.gt_session.specs.Calls.{Takes, Makes}
 use Rattle.gt_session.specs.Pieces.{IsCause, path_cause, Turns, TurnsStage, IsOldIn, FindsOwn, FindsOld, open_with, session_with}
 
