@@ -194,8 +194,8 @@ module _ {D : Type 0} (tells : Bool) (view : D → View) (fault_count : D → �
       }
 
       -- it was done, and its answer isn't written whole
-      pub part_written : (cause : PlayCause) (d : D) → (cause ≡ Device → ⊥) → ((file : FileId) (at : ℕ) → cause ≡ Damaged file at → ⊥) → d ≡ q.disk → AppendsFront u v (printed_answer reply) → PlayedPart tells view fault_count cause requests o d w v
-      part_written cause d device damaged same front = record {
+      pub part_written : (cause : PlayCause) (d : D) → (cause ≡ Device → ⊥) → ((file : FileId) (at : ℕ) → cause ≡ Damaged file at → ⊥) → (cause ≡ Memory → v ≡ u) → d ≡ q.disk → AppendsFront u v (printed_answer reply) → PlayedPart tells view fault_count cause requests o d w v
+      part_written cause d device damaged uncut same front = record {
         whole = done.lines;
         part = line ∷ [];
         at_most_one = omega arith;
@@ -204,6 +204,7 @@ module _ {D : Type 0} (tells : Bool) (view : D → View) (fault_count : D → �
         between = u;
         bytes = done.bytes;
         front = let P : List ℕ → Type 0 = λ l. AppendsFront u v l in subst P (sym (append-nil (printed_answer reply))) front;
+        uncut = uncut;
         ends = ends_writing cause device damaged line (drop (i + 1) (numbered 1 requests));
         counted = subst (λ (x : D). Counted (own_faults cause) (fault_count o.disk) (fault_count x) (done.lines ++ line ∷ [])) (sym same) (no_faults cause device (fault_count o.disk) (fault_count q.disk) (done.lines ++ line ∷ []) counted_line);
         went = subst (λ (x : D). IsTrue tells → (start : State) (begin : ℕ) (history : List Happening) → HasRun view start begin history o → Went view start begin history o (view x) (done.lines ++ line ∷ [])) (sym same) (went_of last o q (done.lines ++ line ∷ []) all_go);
@@ -233,6 +234,7 @@ module _ {D : Type 0} (tells : Bool) (view : D → View) (fault_count : D → �
         between = u;
         bytes = done.bytes;
         front = front_nil u;
+        uncut = λ is. refl;
         ends = ends_closing cause write (record { none = refl; number = number; request = request; more = behind; next = refl; restart = restart });
         counted = subst (λ (x : D). Counted (own_faults cause) (fault_count o.disk) (fault_count x) (done.lines ++ [])) (sym same)
             (subst (λ (l : List Line). Counted (own_faults cause) (fault_count o.disk) (fault_count e) l) (sym (append-nil done.lines)) (closing_faults cause write (fault_count o.disk) (fault_count p.disk) (fault_count e) done.lines later rose done.counted));
@@ -257,6 +259,7 @@ module _ {D : Type 0} (tells : Bool) (view : D → View) (fault_count : D → �
     between = w;
     bytes = appends_nil w;
     front = front_nil w;
+    uncut = λ is. refl;
     ends = tt;
     counted = subst (λ (x : D). Counted 0 (fault_count p.disk) (fault_count x) []) (sym same) (counted_none (fault_count p.disk));
     went = subst (λ (x : D). IsTrue tells → (start : State) (begin : ℕ) (history : List Happening) → HasRun view start begin history p → Went view start begin history p (view x) []) (sym same) (went_of new_sessions p p [] (goes_none tells view p.limits new_sessions p));
@@ -372,6 +375,7 @@ module _ {D : Type 0} (tells : Bool) (view : D → View) (fault_count : D → �
     between = played.between;
     bytes = played.bytes;
     front = played.front;
+    uncut = played.uncut;
     ends = played.ends;
     counted = counted_earlier (own_faults cause) (fault_count disk) (fault_count p.disk) (fault_count end) (played.whole ++ played.part) later played.counted;
     opens = λ told. ((mounts told).0, (mounts told).1);

@@ -81,7 +81,7 @@ own_faults Device = 1
 own_faults (Damaged file at) = 0
 own_faults Memory = 0
 
--- Some first requests were done, until this cause ended the work. The answers of all but at most the last were written whole, and of that one's a front.
+-- Some first requests were done, until this cause ended the work. The answers of all but at most the last were written whole, and of that one's a front; want of memory cuts no line.
 pub record PlayedPart {D : Type 0} (tells : Bool) (view : D → View) (fault_count : D → ℕ) (cause : PlayCause) (requests : List Request) (old : Shown D) (end : D) (written out : Option (List ℕ)) : Type 0 where
   pub whole : List Line
   pub part : List Line
@@ -91,6 +91,7 @@ pub record PlayedPart {D : Type 0} (tells : Bool) (view : D → View) (fault_cou
   pub between : Option (List ℕ)
   pub bytes : AppendsAll written between (flat_map printed whole)
   pub front : AppendsFront between out (flat_map printed part)
+  pub uncut : cause ≡ Memory → out ≡ between
   pub ends : EndsAt cause part rest
   pub counted : Counted (own_faults cause) (fault_count old.disk) (fault_count end) (whole ++ part)
   pub went : IsTrue tells → (start : State) (begin : ℕ) (history : List Happening) → HasRun view start begin history old → Went view start begin history old (view end) (whole ++ part)

@@ -11,6 +11,7 @@ use Rattle.gt_base.specs.Histories.{IsGood}
 use Rattle.gt_base.specs.Histories.{Holds}
 use Rattle.gt_script.specs.declared.request.Request.{Request}
 use Rattle.gt_prog.specs.declared.playing.PlayCause.{PlayCause}
+use Rattle.gt_prog.specs.declared.playing.PlayCause.TheVariants.{Memory}
 use Rattle.gt_prog.specs.Played.{EndsAt, own_faults}
 use Rattle.gt_prog.specs.Lines.{Line, Past, Stand, from_here, new_sessions, printed, numbered, asked_by, Counted, AreLines, IsEnd}
 
@@ -60,7 +61,7 @@ pub record Replayed (tells : Bool) (limits : Limits) (requests : List Request) (
   pub opens : IsTrue tells → Opens limits old
   pub worked : IsTrue tells → IsGood limits (now old) → Worked limits old new lines
 
--- Some first requests were done, until this cause ended the work. The answers of all but at most the last were written whole, and of that one's a front.
+-- Some first requests were done, until this cause ended the work. The answers of all but at most the last were written whole, and of that one's a front; want of memory cuts no line.
 pub record ReplayedPart (tells : Bool) (limits : Limits) (cause : PlayCause) (requests : List Request) (old new : View) (before after : ℕ) (written out : Option (List ℕ)) : Type 0 where
   pub whole : List Line
   pub part : List Line
@@ -70,6 +71,7 @@ pub record ReplayedPart (tells : Bool) (limits : Limits) (cause : PlayCause) (re
   pub between : Option (List ℕ)
   pub bytes : AppendsAll written between (flat_map printed whole)
   pub front : AppendsFront between out (flat_map printed part)
+  pub uncut : cause ≡ Memory → out ≡ between
   pub ends : EndsAt cause part rest
   pub counted : Counted (own_faults cause) before after (whole ++ part)
   pub opens : IsTrue tells → Opens limits old

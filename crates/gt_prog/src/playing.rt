@@ -59,6 +59,8 @@ pub(crate) fn play<D: Disk + Drop, K: Sink>(
     ensures counts { IfOk result (λ p. D.fault_count partition.disk ≤ D.fault_count p.disk) }
     ensures counts_in_vain { IfErr result (λ e. D.fault_count partition.disk ≤ D.fault_count e.disk) }
     ensures write { IfErr result (λ e. e.cause ≡ PlayCause.Write → Rose (K.faults sink.old) (K.faults sink.new)) }
+    ensures sure { IfOk result (λ p. K.faults sink.new ≡ K.faults sink.old) }
+    ensures sure_in_vain { IfErr result (λ e. (e.cause ≡ PlayCause.Write → ⊥) → K.faults sink.new ≡ K.faults sink.old) }
     ensures device { IfErr result (λ e. e.cause ≡ PlayCause.Device → Rose (D.fault_count partition.disk) (D.fault_count e.disk)) }
     ensures damaged { IfErr result (λ e. (file : FileId) (at : ℕ) → e.cause ≡ PlayCause.Damaged file at → IsTrue D.tells → recover partition.limits (D.view e.disk).reads ≡ Err (file, at)) }
 {
@@ -98,6 +100,8 @@ fn play_lines<D: Disk + Drop, K: Sink>(
     ensures counts { IfOk result (λ p. D.fault_count local.disk ≤ D.fault_count p.disk) }
     ensures counts_in_vain { IfErr result (λ e. D.fault_count local.disk ≤ D.fault_count e.disk) }
     ensures write { IfErr result (λ e. e.cause ≡ PlayCause.Write → Rose (K.faults sink.old) (K.faults sink.new)) }
+    ensures sure { IfOk result (λ p. K.faults sink.new ≡ K.faults sink.old) }
+    ensures sure_in_vain { IfErr result (λ e. (e.cause ≡ PlayCause.Write → ⊥) → K.faults sink.new ≡ K.faults sink.old) }
     ensures device { IfErr result (λ e. e.cause ≡ PlayCause.Device → Rose (D.fault_count local.disk) (D.fault_count e.disk)) }
     ensures damaged { IfErr result (λ e. (file : FileId) (at : ℕ) → e.cause ≡ PlayCause.Damaged file at → IsTrue D.tells → recover local.limits (D.view e.disk).reads ≡ Err (file, at)) }
 {

@@ -1,13 +1,14 @@
-ghost use Rattle.std.specs.Prelude.{◌≡◌, ◌⊎◌, ◌≤◌, ◌<◌, ◌^◌, ◌↔◌, ℕ, length, false, IsTrue, IfOk, None, map, Err};
+ghost use Rattle.std.specs.Prelude.{◌≡◌, ◌≢◌, ◌+◌, ◌⊎◌, ◌≤◌, ◌<◌, ◌^◌, ◌↔◌, ℕ, length, false, IsTrue, IfOk, None, map, Err};
 ghost use Rattle.std.specs.List.{All};
 ghost use Rattle.gt_disk.specs.Files.{Rose, now};
 ghost use Rattle.gt_disk.specs.declared.file_id.FileId.{FileId};
 ghost use Rattle.gt_model.specs.Usual.{usual};
+ghost use Rattle.gt_outside.specs.Consumed.{ConsumesAtMost};
 ghost use Rattle.gt_base.specs.Recovery.{recover};
 ghost use Rattle.gt_base.specs.Histories.{IsGood};
 ghost use Rattle.gt_prog.specs.declared.playing.PlayCause.{PlayCause};
 ghost use Rattle.gt_prog.specs.Script.{HasSession, not_built};
-ghost use Rattle.gt_prog.specs.Statuses.{AreGood, Stays, IsBadAt, IsNotYetAt, IsGoodInput, IsDone, IsCutShort, IsBroken, IsEarly, IsUnderway, ReadsInput, RoseEither};
+ghost use Rattle.gt_prog.specs.Statuses.{AreGood, Stays, IsBadAt, IsNotYetAt, IsGoodInput, IsDone, IsCutShort, IsBroken, IsEarly, IsUnderway, ReadsInput, RoseEither, input_limit};
 ghost use Rattle.gt_prog.specs.Words.{is_replay};
 
 use crate::script::{ScriptError, parse_script};
@@ -64,6 +65,19 @@ pub fn gitstore_plain<H: Host, S: Source, K: Sink>(
     ensures device { (disk : ℕ) → result ≡ Status.DiskFault disk → (disk ≡ 1) × RoseEither (H.faults host.old) (H.faults host.new) (H.disk_faults host.old 1) (H.disk_faults host.new 1) }
     ensures damaged { (disk : ℕ) (file : FileId) (at : ℕ) → result ≡ Status.Damaged disk file at → (disk ≡ 1) × (IsTrue H.D.tells → recover usual (H.disk_view host.new 1).reads ≡ Err (file, at)) }
     ensures back { (n : ℕ) → H.is_out host.new n ≡ false }
+
+    // No other disk is touched, and nothing at all before the input is good. The input is read one byte past its limit at most, and
+    // for other words not at all.
+    ensures other_views { (n : ℕ) → n ≢ 1 → H.disk_view host.new n ≡ H.disk_view host.old n }
+    ensures other_counts { (n : ℕ) → n ≢ 1 → H.disk_faults host.new n ≡ H.disk_faults host.old n }
+    ensures idle { IsEarly result → (host.new ≡ host.old) × (sink.new ≡ sink.old) }
+    ensures unread { result ≡ Status.Usage → source.new ≡ source.old }
+    ensures most { ConsumesAtMost (S.left source.old) (S.left source.new) (input_limit + 1) }
+
+    // No count rises but that of what failed.
+    ensures read_sure { result ≢ Status.ReadFault → S.faults source.new ≡ S.faults source.old }
+    ensures write_sure { result ≢ Status.WriteFault → K.faults sink.new ≡ K.faults sink.old }
+    ensures host_sure { ((disk : ℕ) → result ≢ Status.DiskFault disk) → H.faults host.new ≡ H.faults host.old }
 {
     if !is_replay(words) {
         return Status::Usage;
@@ -82,6 +96,8 @@ pub(crate) fn requests_in<S: Source>(alloc: Global, source: &mut S) -> Result<Ve
     ensures sessions { IfOk result (λ requests. All HasSession requests.items) }
     ensures later { S.faults source.old ≤ S.faults source.new }
     ensures read { result ≡ Err Status.ReadFault → Rose (S.faults source.old) (S.faults source.new) }
+    ensures sure { (result ≡ Err Status.ReadFault → ⊥) → S.faults source.new ≡ S.faults source.old }
+    ensures most { ConsumesAtMost (S.left source.old) (S.left source.new) (input_limit + 1) }
 {
     let bytes = match read_whole(alloc, source, INPUT_LIMIT) {
         Ok(bytes) => bytes,

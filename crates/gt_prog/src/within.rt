@@ -1,8 +1,9 @@
-ghost use Rattle.std.specs.Prelude.{◌≡◌, ◌≤◌, ℕ, false, IsTrue, Err};
+ghost use Rattle.std.specs.Prelude.{◌≡◌, ◌≢◌, ◌+◌, ◌≤◌, ℕ, false, IsTrue, Err};
 ghost use Rattle.gt_disk.specs.Files.{Rose};
 ghost use Rattle.gt_disk.specs.declared.file_id.FileId.{FileId};
+ghost use Rattle.gt_outside.specs.Consumed.{ConsumesAtMost};
 ghost use Rattle.gt_base.specs.Recovery.{recover};
-ghost use Rattle.gt_prog.specs.Statuses.{IsBadAt, IsNotYetAt, IsGoodInput, IsUnderway, RoseEither};
+ghost use Rattle.gt_prog.specs.Statuses.{IsBadAt, IsNotYetAt, IsGoodInput, IsUnderway, RoseEither, input_limit};
 
 use crate::status::Status;
 use crate::top::requests_in;
@@ -28,6 +29,9 @@ pub fn replay_within<H: Host, S: Source, K: Sink>(
     ensures device { (disk : ℕ) → result ≡ Status.DiskFault disk → (disk ≡ 1) × RoseEither (H.faults host.old) (H.faults host.new) (H.disk_faults host.old 1) (H.disk_faults host.new 1) }
     ensures damaged { (disk : ℕ) (file : FileId) (at : ℕ) → result ≡ Status.Damaged disk file at → (disk ≡ 1) × (IsTrue H.D.tells → recover limits (H.disk_view host.new 1).reads ≡ Err (file, at)) }
     ensures back { (n : ℕ) → H.is_out host.new n ≡ false }
+    ensures other_views { (n : ℕ) → n ≢ 1 → H.disk_view host.new n ≡ H.disk_view host.old n }
+    ensures other_counts { (n : ℕ) → n ≢ 1 → H.disk_faults host.new n ≡ H.disk_faults host.old n }
+    ensures most { ConsumesAtMost (S.left source.old) (S.left source.new) (input_limit + 1) }
 {
     match requests_in(alloc, source) {
         Err(status) => status,

@@ -39,6 +39,14 @@ pub(crate) fn work<H: Host, K: Sink>(
     ensures damaged { (disk : ℕ) (file : FileId) (at : ℕ) → result ≡ Status.Damaged disk file at → (disk ≡ 1) × (IsTrue H.D.tells → recover limits (H.disk_view host.new 1).reads ≡ Err (file, at)) }
     ensures undamaged { IsTrue H.D.tells → IsGood limits (now (H.disk_view host.old 1)) → (disk : ℕ) (file : FileId) (at : ℕ) → result ≢ Status.Damaged disk file at }
     ensures back { (n : ℕ) → H.is_out host.new n ≡ H.is_out host.old n }
+
+    // No other disk is touched.
+    ensures other_views { (n : ℕ) → n ≢ 1 → H.disk_view host.new n ≡ H.disk_view host.old n }
+    ensures other_counts { (n : ℕ) → n ≢ 1 → H.disk_faults host.new n ≡ H.disk_faults host.old n }
+
+    // No count rises but that of what failed.
+    ensures sure { result ≢ Status.WriteFault → K.faults sink.new ≡ K.faults sink.old }
+    ensures host_sure { ((disk : ℕ) → result ≢ Status.DiskFault disk) → H.faults host.new ≡ H.faults host.old }
 {
     let Ok(disk) = host.take(FIRST) else {
         return Status::DiskFault { disk: FIRST };
@@ -62,6 +70,7 @@ fn over_disk<D: Disk + Drop, K: Sink>(
     ensures ends { WorkEnds D.tells limits requests.now (D.view disk) (D.view result.0) (D.fault_count disk) (D.fault_count result.0) (K.written sink.old) (K.written sink.new) result.1 }
     ensures later { K.faults sink.old ≤ K.faults sink.new }
     ensures counts { D.fault_count disk ≤ D.fault_count result.0 }
+    ensures sure { result.1 ≢ Status.WriteFault → K.faults sink.new ≡ K.faults sink.old }
     ensures write { result.1 ≡ Status.WriteFault → Rose (K.faults sink.old) (K.faults sink.new) }
     ensures device { (number : ℕ) → result.1 ≡ Status.DiskFault number → (number ≡ 1) × Rose (D.fault_count disk) (D.fault_count result.0) }
     ensures damaged { (number : ℕ) (file : FileId) (at : ℕ) → result.1 ≡ Status.Damaged number file at → (number ≡ 1) × (IsTrue D.tells → recover limits (D.view result.0).reads ≡ Err (file, at)) }

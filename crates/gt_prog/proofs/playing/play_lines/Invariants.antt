@@ -9,6 +9,7 @@ invariant-loop-request g l = record {
   played : Played g.D.Disk.tells g.D.Disk.view g.D.Disk.fault_count (take l.request-index l.requests) l.sessions l.initial.local l.local (g.K.Sink.written l.fn.sink) (g.K.Sink.written l.sink);
   held : AreHeld l.sessions (map (λ p. p.number) l.local.live);
   numbered : l.line ≡ l.request-index;
+  sure : g.K.Sink.faults l.sink ≡ g.K.Sink.faults l.fn.sink;
   later : g.K.Sink.faults l.fn.sink ≤ g.K.Sink.faults l.sink;
   limits : l.local.limits ≡ l.initial.local.limits;
   counts : g.D.Disk.fault_count l.initial.local.disk ≤ g.D.Disk.fault_count l.local.disk;
