@@ -1,7 +1,7 @@
 ghost use Rattle.std.specs.Prelude.{◌≡◌, ◌≤◌, ◌++◌, ℕ, [], ◌∷◌, List, length, IsTrue, IfOk, IfErr};
 ghost use Rattle.gt_disk.specs.Files.{Rose, now};
 ghost use Rattle.gt_disk.specs.Moments.{Since, Narrows};
-ghost use Rattle.gt_model.specs.Machine.{State, Settles, content, is_live};
+ghost use Rattle.gt_model.specs.Machine.{State, Settles, opening, unapplied, content, is_live};
 ghost use Rattle.gt_model.specs.Histories.{Happening, all_refs, last_state};
 ghost use Rattle.gt_base.specs.Recovery.{recover};
 ghost use Rattle.gt_base.specs.Histories.{IsGood, Holds};
@@ -57,6 +57,9 @@ impl<D: Disk + Drop> Partition<D> {
         // Over a disk that tells it opens exactly what the files recover to, or names the first damage.
         ensures answer { IsTrue D.tells → Mounts (recover limits (D.view disk).reads) result }
         ensures kept { IfOk result (λ p. (p.number ≡ number) × (p.limits ≡ limits)) }
+
+        // Over any disk its memory stands for a state that is opened from the entries it has.
+        ensures opened { IfOk result (λ p. memory p ≡ opening (unapplied p.ledger.log)) }
         ensures empty { IfOk result (λ p. p.trail ≡ []) }
 
         // The trail has the references of what is opened.
@@ -115,6 +118,7 @@ impl<D: Disk + Drop> Partition<D> {
         // Where it fails, what has happened still holds on the disk.
         ensures in_vain { IsTrue D.tells → (start : State) (begin : ℕ) (history : List Happening) → HasRun D.view start begin history self → IfErr result (λ e. Holds self.limits start begin history (D.view e.disk)) }
         ensures kept { IfOk result (λ p. (p.number ≡ self.number) × (p.limits ≡ self.limits)) }
+        ensures opened { IfOk result (λ p. memory p ≡ opening (unapplied p.ledger.log)) }
         ensures answer { IsTrue D.tells → Mounts (recover self.limits (D.view self.disk).reads) result }
         ensures sure { IfOk result (λ p. D.fault_count p.disk ≡ D.fault_count self.disk) }
         ensures fault { IfErr result (HasMountCause D.fault_count self.disk) }

@@ -12,3 +12,6 @@ returns-in-Ok-all_refs-clause-run g c told good =
     let opened = c.in-Ok.ensures.answer told in
     let there = c.in-Ok.ensures.stored told good in
     (refl, first_run c.args.limits _ c.in-Ok.journal _ _ opened.1 c.new.ensures c.new-in-Ok-all_refs.ensures there.0 there.1)
+
+pub returns-in-Ok-all_refs-clause-opened : goal.returns-in-Ok-all_refs-clause-opened
+returns-in-Ok-all_refs-clause-opened g c = opened_stands c.in-Ok.journal _ c.in-Ok.ensures.settled c.new.ensures
