@@ -1,4 +1,4 @@
-mod Firsts
+pub mod Firsts
 mod Folders
-mod Maps
+pub mod Maps
 mod Union

@@ -1,4 +1,4 @@
-ghost use Rattle.std.specs.Prelude.{◌≡◌, OnOk, OnErr};
+ghost use Rattle.std.specs.Prelude.{◌≡◌, IfOk, OnOk, OnErr};
 ghost use Rattle.std.specs.Option.{option_copied};
 ghost use Rattle.std.specs.FinMap as map;
 ghost use Rattle.std.specs.BTreeMap.{IsOrdered};
@@ -55,6 +55,13 @@ impl PlainOwn {
         ensures { option_copied result ≡ map.get self.now name.now }
     {
         self.tree.get(name)
+    }
+
+    /// Names and records, ascending by name.
+    pub fn entries(&self, alloc: Global) -> Result<Vec<(Name, Record)>, NoMemory>
+        ensures { IfOk result (λ v. v.items ≡ map.entries self.now) }
+    {
+        copies_of(alloc, &self.tree)
     }
 
     /// Sets the record under a name.
@@ -121,6 +128,17 @@ impl PlainOwn {
     {
         copy_all_missing(self, &other.tree)
     }
+}
+
+fn copies_of(alloc: Global, tree: &BTreeMap<Name, Record>) -> Result<Vec<(Name, Record)>, NoMemory>
+    ensures copies { IfOk result (λ v. v.items ≡ tree.now.entries) }
+    ensures ordered { IsOrdered key_cmp tree.now }
+{
+    let mut copies = Vec::new(alloc);
+    for (name, whole) in tree.iter() {
+        copies.push((*name, whole.clone()?))?;
+    }
+    Ok(copies)
 }
 
 fn copy_all_missing(own: &mut PlainOwn, tree: &BTreeMap<Name, Record>) -> Result<(), NoMemory>
