@@ -1,0 +1,112 @@
+ghost use Rattle.std.specs.Prelude.{◌≡◌, filter, is_some, map as map_list, length, IfOk};
+ghost use Rattle.std.specs.List.{list_any, flat_map};
+ghost use Rattle.gt_model.specs.Verdicts.{same_name, ascending};
+ghost use Rattle.gt_model.specs.Batches.{file_of, next_past, is_deletion, has_records, written, files_of, cut, repos_at, files_at, paths_of, new_files};
+ghost use Rattle.gt_plain_jobs.specs.Files.{new_file};
+
+use crate::conflicts::adds_some;
+use crate::texts::ascending;
+use gt_list::{ListOf, NoMemory};
+use gt_model::{Change, Entry, EntryList, RefUpdate, Word};
+use std::alloc::Global;
+
+/// The file of a job's change; 0 where it is none.
+fn file_of(change: &Change) -> u64
+    ensures { result ≡ file_of change.now }
+{
+    match change {
+        Change::Repack { file, dropped: _ } => *file,
+        Change::Prune { file, dropped: _ } => *file,
+        Change::PackRefs { file } => *file,
+        Change::Unlink { file } => *file,
+        Change::Create { .. } => 0,
+        Change::Delete => 0,
+        Change::Link { .. } => 0,
+        Change::Write { .. } => 0,
+    }
+}
+
+/// The next free number where a log is opened over a manifest with this next one.
+pub fn next_past(next: u64, log: &[Entry]) -> u128
+    ensures { result ≡ next_past next log.now }
+{
+    let mut least = u128::from(next);
+    for entry in log {
+        least = least.max(u128::from(file_of(&entry.change)) + 1);
+    }
+    least
+}
+
+fn is_deletion(change: &Change) -> bool
+    ensures { result ≡ is_deletion change.now }
+{
+    match change {
+        Change::Delete => true,
+        Change::Create { .. } => false,
+        Change::Link { .. } => false,
+        Change::Write { .. } => false,
+        Change::Repack { .. } => false,
+        Change::Prune { .. } => false,
+        Change::PackRefs { .. } => false,
+        Change::Unlink { .. } => false,
+    }
+}
+
+fn has_records(change: &Change) -> bool
+    ensures { result ≡ has_records change.now }
+{
+    match change {
+        Change::Write {
+            refs: _,
+            needed: _,
+            added,
+        } => adds_some(added.as_slice()),
+        Change::Create { .. } => false,
+        Change::Delete => false,
+        Change::Link { .. } => false,
+        Change::Repack { .. } => false,
+        Change::Prune { .. } => false,
+        Change::PackRefs { .. } => false,
+        Change::Unlink { .. } => false,
+    }
+}
+
+fn text_of(bytes: &[u8], alloc: Global) -> Result<Word, NoMemory>
+    ensures { IfOk result (λ text. text ≡ bytes.now) }
+{
+    let bytes = Vec::from_slice(alloc, bytes)?;
+    Ok(ListOf::from_vec(bytes))
+}
+
+/// The references to which updates write.
+fn moved(alloc: Global, refs: &[RefUpdate]) -> Result<Vec<Word>, NoMemory>
+    ensures { IfOk result (λ v. v.items ≡ map_list (λ u. u.name) (filter (λ u. is_some u.new) refs.now)) }
+{
+    let mut names = Vec::new(alloc);
+    for update in refs {
+        if update.new.is_some() {
+            names.push(text_of(update.name.bytes(), alloc)?)?;
+        }
+    }
+    Ok(names)
+}
+
+/// The references that a change writes.
+fn written(alloc: Global, change: &Change) -> Result<Vec<Word>, NoMemory>
+    ensures { IfOk result (λ v. v.items ≡ written change.now) }
+{
+    match change {
+        Change::Write {
+            refs,
+            needed: _,
+            added: _,
+        } => moved(alloc, refs.as_slice()),
+        Change::Create { .. } => Ok(Vec::new(alloc)),
+        Change::Delete => Ok(Vec::new(alloc)),
+        Change::Link { .. } => Ok(Vec::new(alloc)),
+        Change::Repack { .. } => Ok(Vec::new(alloc)),
+        Change::Prune { .. } => Ok(Vec::new(alloc)),
+        Change::PackRefs { .. } => Ok(Vec::new(alloc)),
+        Change::Unlink { .. } => Ok(Vec::new(alloc)),
+    }
+}
