@@ -1,4 +1,4 @@
 pub mod Firsts
-mod Folders
+pub mod Folders
 pub mod Maps
-mod Union
+pub mod Union

@@ -1,13 +1,14 @@
-ghost use Rattle.std.specs.Prelude.{◌≡◌, filter, is_some, map as map_list, length, IfOk};
+ghost use Rattle.std.specs.Prelude.{◌≡◌, [], ◌∷◌, ◌++◌, filter, is_some, map as map_list, length, if◌then◌else◌, IfOk, OnOk};
 ghost use Rattle.std.specs.List.{list_any, flat_map};
 ghost use Rattle.gt_model.specs.Verdicts.{same_name, ascending};
-ghost use Rattle.gt_model.specs.Batches.{file_of, next_past, is_deletion, has_records, written, files_of, cut, repos_at, files_at, paths_of, new_files};
+ghost use Rattle.gt_model.specs.Batches.{pack, loose, file_of, next_past, is_deletion, has_records, written, files_of, cut, repos_at, files_at, paths_of, new_files};
 ghost use Rattle.gt_plain_jobs.specs.Files.{new_file};
 
 use crate::conflicts::adds_some;
 use crate::texts::ascending;
+use crate::{PlainFile, Text};
 use gt_list::{ListOf, NoMemory};
-use gt_model::{Change, Entry, EntryList, RefUpdate, Word};
+use gt_model::{Change, Entry, EntryList, RefUpdate};
 use std::alloc::Global;
 
 /// The file of a job's change; 0 where it is none.
@@ -71,28 +72,21 @@ fn has_records(change: &Change) -> bool
     }
 }
 
-fn text_of(bytes: &[u8], alloc: Global) -> Result<Word, NoMemory>
-    ensures { IfOk result (λ text. text ≡ bytes.now) }
-{
-    let bytes = Vec::from_slice(alloc, bytes)?;
-    Ok(ListOf::from_vec(bytes))
-}
-
 /// The references to which updates write.
-fn moved(alloc: Global, refs: &[RefUpdate]) -> Result<Vec<Word>, NoMemory>
+fn moved(alloc: Global, refs: &[RefUpdate]) -> Result<Vec<Text>, NoMemory>
     ensures { IfOk result (λ v. v.items ≡ map_list (λ u. u.name) (filter (λ u. is_some u.new) refs.now)) }
 {
     let mut names = Vec::new(alloc);
     for update in refs {
         if update.new.is_some() {
-            names.push(text_of(update.name.bytes(), alloc)?)?;
+            names.push(Text::of(alloc, update.name.bytes())?)?;
         }
     }
     Ok(names)
 }
 
 /// The references that a change writes.
-fn written(alloc: Global, change: &Change) -> Result<Vec<Word>, NoMemory>
+fn written(alloc: Global, change: &Change) -> Result<Vec<Text>, NoMemory>
     ensures { IfOk result (λ v. v.items ≡ written change.now) }
 {
     match change {
@@ -109,4 +103,56 @@ fn written(alloc: Global, change: &Change) -> Result<Vec<Word>, NoMemory>
         Change::PackRefs { .. } => Ok(Vec::new(alloc)),
         Change::Unlink { .. } => Ok(Vec::new(alloc)),
     }
+}
+
+/// What entries write, in order.
+fn all_written(alloc: Global, entries: &[Entry]) -> Result<Vec<Text>, NoMemory>
+    ensures { IfOk result (λ v. v.items ≡ flat_map (λ e. written e.change) entries.now) }
+{
+    let mut names = Vec::new(alloc);
+    for entry in entries {
+        names.append(&mut written(alloc, &entry.change)?)?;
+    }
+    Ok(names)
+}
+
+fn any_has_records(entries: &[Entry]) -> bool
+    ensures { result ≡ list_any (λ e. has_records e.change) entries.now }
+{
+    entries.iter().any(|entry| has_records(&entry.change))
+}
+
+/// Adds the file of each reference.
+fn add_loose(
+    alloc: Global,
+    files: &mut Vec<PlainFile>,
+    names: &[Text],
+) -> Result<(), NoMemory>
+    ensures { OnOk result (map_list new_file files.new.items ≡ map_list new_file files.old.items ++ map_list loose names.now) }
+{
+    for name in names {
+        files.push(PlainFile::Loose(Text::of(alloc, name.bytes())?))?;
+    }
+    Ok(())
+}
+
+fn pack_of(alloc: Global, has_pack: bool) -> Result<Vec<PlainFile>, NoMemory>
+    ensures { IfOk result (λ v. map_list new_file v.items ≡ (if has_pack then pack ∷ [] else [])) }
+{
+    let mut files = Vec::new(alloc);
+    if has_pack {
+        files.push(PlainFile::Pack)?;
+    }
+    Ok(files)
+}
+
+/// What entries write to one repository: a pack for all records, then a file for each reference, ascending.
+pub fn files_of(alloc: Global, entries: &[Entry]) -> Result<Vec<PlainFile>, NoMemory>
+    ensures { IfOk result (λ v. map_list new_file v.items ≡ files_of entries.now) }
+{
+    let names = all_written(alloc, entries)?;
+    let names = ascending(alloc, &names)?;
+    let mut files = pack_of(alloc, any_has_records(entries))?;
+    add_loose(alloc, &mut files, &names)?;
+    Ok(files)
 }

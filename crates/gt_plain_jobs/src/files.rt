@@ -1,4 +1,4 @@
-use gt_model::Word;
+use crate::Text;
 
 /// A new file of an application.
 #[derive(Drop)]
@@ -6,5 +6,5 @@ pub enum PlainFile {
     /// The pack of the records that are added to a repository.
     Pack,
     /// The file of one of its references.
-    Loose(Word),
+    Loose(Text),
 }
