@@ -1,14 +1,14 @@
 ghost use Rattle.std.specs.Prelude.{◌≡◌, [], ◌∷◌, ◌++◌, filter, is_some, map as map_list, length, if◌then◌else◌, IfOk, OnOk};
 ghost use Rattle.std.specs.List.{list_any, flat_map};
-ghost use Rattle.gt_model.specs.Verdicts.{same_name, ascending};
-ghost use Rattle.gt_model.specs.Batches.{pack, loose, file_of, next_past, is_deletion, has_records, written, files_of, cut, repos_at, files_at, paths_of, new_files};
+ghost use Rattle.gt_model.specs.Verdicts.{ascending};
+ghost use Rattle.gt_model.specs.Batches.{pack, loose, file_of, next_past, is_deletion, has_records, written, files_of};
 ghost use Rattle.gt_plain_jobs.specs.Files.{new_file};
 
 use crate::conflicts::adds_some;
 use crate::texts::ascending;
 use crate::{PlainFile, Text};
-use gt_list::{ListOf, NoMemory};
-use gt_model::{Change, Entry, EntryList, RefUpdate};
+use gt_list::NoMemory;
+use gt_model::{Change, Entry, RefUpdate};
 use std::alloc::Global;
 
 /// The file of a job's change; 0 where it is none.
@@ -38,7 +38,7 @@ pub fn next_past(next: u64, log: &[Entry]) -> u128
     least
 }
 
-fn is_deletion(change: &Change) -> bool
+pub(crate) fn is_deletion(change: &Change) -> bool
     ensures { result ≡ is_deletion change.now }
 {
     match change {
