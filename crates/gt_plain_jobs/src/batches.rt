@@ -123,11 +123,7 @@ fn any_has_records(entries: &[Entry]) -> bool
 }
 
 /// Adds the file of each reference.
-fn add_loose(
-    alloc: Global,
-    files: &mut Vec<PlainFile>,
-    names: &[Text],
-) -> Result<(), NoMemory>
+fn add_loose(alloc: Global, files: &mut Vec<PlainFile>, names: &[Text]) -> Result<(), NoMemory>
     ensures { OnOk result (map_list new_file files.new.items ≡ map_list new_file files.old.items ++ map_list loose names.now) }
 {
     for name in names {

@@ -67,11 +67,7 @@ fn pooled_names(
 }
 
 /// The own names that its pool has too, ascending: what a repack drops.
-pub fn repacked(
-    alloc: Global,
-    content: &PlainContent,
-    path: &RepoPath,
-) -> Result<Names, NoMemory>
+pub fn repacked(alloc: Global, content: &PlainContent, path: &RepoPath) -> Result<Names, NoMemory>
     ensures { IfOk result (λ names. names ≡ repacked content.now path.now) }
 {
     let objects = owned(alloc, content, path)?;

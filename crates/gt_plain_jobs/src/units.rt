@@ -20,11 +20,7 @@ fn sum(one: usize, other: usize) -> Result<usize, NoMemory>
 }
 
 /// How many own objects stay: of a member those that its pool hasn't.
-pub fn kept_count(
-    alloc: Global,
-    content: &PlainContent,
-    path: &RepoPath,
-) -> Result<usize, NoMemory>
+pub fn kept_count(alloc: Global, content: &PlainContent, path: &RepoPath) -> Result<usize, NoMemory>
     ensures { IfOk result (λ n. n ≡ kept_count content.now path.now) }
 {
     let objects = owned(alloc, content, path)?;
@@ -78,11 +74,7 @@ fn refs_of(
 }
 
 /// One for each reference and for each tag that is met from it.
-pub fn ref_units(
-    alloc: Global,
-    content: &PlainContent,
-    path: &RepoPath,
-) -> Result<usize, NoMemory>
+pub fn ref_units(alloc: Global, content: &PlainContent, path: &RepoPath) -> Result<usize, NoMemory>
     ensures { IfOk result (λ n. n ≡ ref_units content.now path.now) }
 {
     let refs = refs_of(alloc, content, path)?;
