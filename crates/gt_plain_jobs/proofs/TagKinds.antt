@@ -2,7 +2,6 @@
 use Rattle.std.proofs.Common.{◌≡◌, ℕ, Bool, true, false, cond, nat_lt, List, length, Option, Some, None, refl, sym, ap, ◌∙◌}
 use Rattle.gt_object.specs.declared.kind.Kind.{Kind}
 use Rattle.gt_object.specs.declared.kind.Kind.TheVariants.{Commit, Tree, Blob, Tag}
-use Rattle.gt_object.specs.declared.error.ObjectError.{ObjectError}
 use Rattle.gt_object.specs.declared.error.ObjectError.TheVariants.{TooLarge, BadObject}
 use Rattle.gt_object.specs.Header.{kind_of, header_of}
 use Rattle.gt_object.specs.Whole.{broken_in, why_not}
