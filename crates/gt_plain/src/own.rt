@@ -104,7 +104,7 @@ impl PlainOwn {
     }
 
     /// Takes objects away.
-    pub(crate) fn remove_all(&mut self, names: &[Name])
+    pub fn remove_all(&mut self, names: &[Name])
         ensures { self.new ≡ without self.old names.now }
     {
         for name in names {

@@ -14,7 +14,7 @@ mod units;
 pub use batches::{files_of, next_past};
 pub use conflicts::{head, is_kin, job_conflict};
 pub use files::PlainFile;
-pub use objects::{brought_objects, owned, pooled, repacked};
+pub use objects::{brought_objects, left_objects, owned, pooled, repacked};
 pub use repos::{files_at, new_files, paths_of, repos_at};
 pub use tags::{peel, peeled, tag_count};
 pub use text::Text;

@@ -1,11 +1,12 @@
 ghost use Rattle.std.specs.Prelude.{◌≡◌, not, is_none, filter, map as map_list, IfOk};
-ghost use Rattle.gt_model.specs.Contents.{own};
-ghost use Rattle.gt_model.specs.Jobs.{owned, pooled, is_pooled, repacked, brought_objects};
+ghost use Rattle.std.specs.FinMap as map;
+ghost use Rattle.gt_model.specs.Contents.{own, own_of};
+ghost use Rattle.gt_model.specs.Jobs.{owned, pooled, is_pooled, repacked, left_objects, brought_objects};
 
 use gt_list::{ListOf, NoMemory};
 use gt_name::{Name, Names, RepoPath};
 use gt_object::Record;
-use gt_plain::PlainContent;
+use gt_plain::{PlainContent, PlainOwn};
 use std::alloc::Global;
 
 /// The own objects of a repository, ascending: names and records.
@@ -121,4 +122,27 @@ pub fn brought_objects(
 {
     let objects = pooled(alloc, content, path)?;
     missing(alloc, content, path, &objects)
+}
+
+fn own_of(alloc: Global, content: &PlainContent, path: &RepoPath) -> Result<PlainOwn, NoMemory>
+    ensures { IfOk result (λ own. own ≡ own_of (map.get content.now path.now)) }
+{
+    match content.get(path) {
+        Some(repo) => Ok(repo.own().clone()?),
+        None => Ok(PlainOwn::new(alloc)),
+    }
+}
+
+/// The own objects but for those that are dropped.
+pub fn left_objects(
+    alloc: Global,
+    content: &PlainContent,
+    path: &RepoPath,
+    dropped: &[Name],
+) -> Result<Vec<(Name, Record)>, NoMemory>
+    ensures { IfOk result (λ v. v.items ≡ left_objects content.now path.now dropped.now) }
+{
+    let mut own = own_of(alloc, content, path)?;
+    own.remove_all(dropped);
+    own.entries(alloc)
 }
