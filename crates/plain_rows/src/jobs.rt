@@ -1,6 +1,6 @@
 //! What jobs come to over the plain content: `conflict PATH JOB [NAME ..]`, with the batch behind the job's position and the
-//! names that it drops; `units PATH JOB`; `repack PATH`, `kept PATH` and `brought PATH`; `peel`, `peeled` or `tags`, each
-//! `PATH NAME`; `family PATH PATH`.
+//! names that it drops; `units PATH JOB`; `repack PATH`, `kept PATH` and `brought PATH`; `left PATH [NAME ..]`, without these;
+//! `peel`, `peeled` or `tags`, each `PATH NAME`; `family PATH PATH`.
 use crate::bench::Bench;
 use crate::reading::{job_of, name_of, names_of, path_of};
 use crate::shown::{put, put_is, put_name, put_names, put_number, put_refusal, put_value};
@@ -42,6 +42,7 @@ fn ask(
         "repack" => repack(out, alloc, &bench.content, path),
         "kept" => put_count(out, gt_plain_jobs::kept_count(alloc, &bench.content, path)),
         "brought" => brought(out, alloc, &bench.content, path),
+        "left" => left(out, alloc, &bench.content, path, word),
         _ => ask_tag(out, alloc, &bench.content, question, path, word),
     }
 }
@@ -119,6 +120,22 @@ fn brought(
     path: &RepoPath,
 ) -> Result<(), AllocError> {
     match gt_plain_jobs::brought_objects(alloc, content, path) {
+        Ok(objects) => put_objects(out, &objects),
+        Err(_) => put(out, b"memory"),
+    }
+}
+
+fn left(
+    out: &mut Vec<u8>,
+    alloc: Global,
+    content: &PlainContent,
+    path: &RepoPath,
+    words: &str,
+) -> Result<(), AllocError> {
+    let Some(dropped) = names_of(alloc, words) else {
+        return put(out, b"bad row");
+    };
+    match gt_plain_jobs::left_objects(alloc, content, path, dropped.as_slice()) {
         Ok(objects) => put_objects(out, &objects),
         Err(_) => put(out, b"memory"),
     }
