@@ -1,4 +1,4 @@
-mod Firsts
-mod Folders
-mod Maps
-mod Union
+pub mod Firsts
+pub mod Folders
+pub mod Maps
+pub mod Union

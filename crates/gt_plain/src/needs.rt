@@ -90,7 +90,7 @@ pub(crate) fn names_of(alloc: Global, records: &[Added]) -> Result<Vec<Name>, No
 }
 
 /// What a record mentions.
-pub(crate) fn deps_of(alloc: Global, whole: &Record) -> Result<Names, NoMemory>
+pub fn deps_of(alloc: Global, whole: &Record) -> Result<Names, NoMemory>
     ensures { IfOk result (λ names. names ≡ deps whole.now) }
 {
     match whole.deps(alloc) {
@@ -150,7 +150,7 @@ fn names_tree(alloc: Global, names: &[Name]) -> Result<BTreeMap<Name, Name>, NoM
 }
 
 /// Names, ascending, each once.
-fn ascending(alloc: Global, names: &[Name]) -> Result<Names, NoMemory>
+pub fn ascending(alloc: Global, names: &[Name]) -> Result<Names, NoMemory>
     ensures { IfOk result (λ list. list ≡ ascending names.now) }
 {
     let tree = names_tree(alloc, names)?;

@@ -1,4 +1,4 @@
-ghost use Rattle.std.specs.Prelude.{◌≡◌, OnOk, OnErr};
+ghost use Rattle.std.specs.Prelude.{◌≡◌, IfOk, OnOk, OnErr};
 ghost use Rattle.std.specs.Option.{option_copied};
 ghost use Rattle.std.specs.FinMap as map;
 ghost use Rattle.std.specs.BTreeMap.{IsOrdered};
@@ -57,6 +57,13 @@ impl PlainOwn {
         self.tree.get(name)
     }
 
+    /// Names and records, ascending by name.
+    pub fn entries(&self, alloc: Global) -> Result<Vec<(Name, Record)>, NoMemory>
+        ensures { IfOk result (λ v. v.items ≡ map.entries self.now) }
+    {
+        copies_of(alloc, &self.tree)
+    }
+
     /// Sets the record under a name.
     pub(crate) fn set(&mut self, name: Name, whole: Record) -> Result<(), NoMemory>
         ensures ok { OnOk result (self.new ≡ map.insert self.old name whole) }
@@ -97,7 +104,7 @@ impl PlainOwn {
     }
 
     /// Takes objects away.
-    pub(crate) fn remove_all(&mut self, names: &[Name])
+    pub fn remove_all(&mut self, names: &[Name])
         ensures { self.new ≡ without self.old names.now }
     {
         for name in names {
@@ -121,6 +128,17 @@ impl PlainOwn {
     {
         copy_all_missing(self, &other.tree)
     }
+}
+
+fn copies_of(alloc: Global, tree: &BTreeMap<Name, Record>) -> Result<Vec<(Name, Record)>, NoMemory>
+    ensures copies { IfOk result (λ v. v.items ≡ tree.now.entries) }
+    ensures ordered { IsOrdered key_cmp tree.now }
+{
+    let mut copies = Vec::new(alloc);
+    for (name, whole) in tree.iter() {
+        copies.push((*name, whole.clone()?))?;
+    }
+    Ok(copies)
 }
 
 fn copy_all_missing(own: &mut PlainOwn, tree: &BTreeMap<Name, Record>) -> Result<(), NoMemory>

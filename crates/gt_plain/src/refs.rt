@@ -1,8 +1,9 @@
-ghost use Rattle.std.specs.Prelude.{◌≡◌, ◌&&◌, not, find, OnOk, OnErr};
+ghost use Rattle.std.specs.Prelude.{◌≡◌, ◌&&◌, not, find, IfOk, OnOk, OnErr};
 ghost use Rattle.std.specs.List.{list_any};
 ghost use Rattle.std.specs.Option.{option_copied};
+ghost use Rattle.std.specs.BTreeMap.{IsOrdered};
 ghost use Rattle.std.specs.FinMap as map;
-ghost use Rattle.gt_model.specs.Contents.{with_value, with_refs};
+ghost use Rattle.gt_model.specs.Contents.{key_cmp, with_value, with_refs};
 ghost use Rattle.gt_model.specs.Verdicts.{same_name, clashes, clash_in};
 
 use crate::names::{clashes, is_among};
@@ -55,6 +56,13 @@ impl PlainRefs {
         ensures { result ≡ map.get self.now name.now }
     {
         self.tree.get(name).copied()
+    }
+
+    /// Names and values, ascending by name.
+    pub fn entries(&self, alloc: Global) -> Result<Vec<(RefName, Name)>, NoMemory>
+        ensures { IfOk result (λ v. v.items ≡ map.entries self.now) }
+    {
+        copies_of(alloc, &self.tree)
     }
 
     /// The least reference that clashes with a name and isn't gone.
@@ -118,4 +126,18 @@ impl PlainRefs {
         }
         Ok(())
     }
+}
+
+fn copies_of(
+    alloc: Global,
+    tree: &BTreeMap<RefName, Name>,
+) -> Result<Vec<(RefName, Name)>, NoMemory>
+    ensures copies { IfOk result (λ v. v.items ≡ tree.now.entries) }
+    ensures ordered { IsOrdered key_cmp tree.now }
+{
+    let mut copies = Vec::new(alloc);
+    for (name, value) in tree.iter() {
+        copies.push((name.clone()?, *value))?;
+    }
+    Ok(copies)
 }

@@ -1,5 +1,6 @@
 use crate::entries::Pending;
-use gt_model::Entry;
+use gt_list::ListOf;
+use gt_model::{Entry, EntryList};
 use gt_objset::ObjSet;
 use gt_plain::PlainContent;
 use gt_reftable::RefTable;
@@ -7,7 +8,7 @@ use gt_stage::Stage;
 use gt_table::Table;
 use std::alloc::Global;
 
-/// What the rows work on: the parts of the next write, the entry in hand, what it is added to, and a stage.
+/// What the rows work on: the parts of the next write, the entry in hand, what it is added to, entries in a row, and a stage.
 #[derive(Drop)]
 pub(crate) struct Bench {
     pub(crate) pending: Pending,
@@ -16,6 +17,7 @@ pub(crate) struct Bench {
     pub(crate) objects: ObjSet,
     pub(crate) table: Table,
     pub(crate) content: PlainContent,
+    pub(crate) batch: EntryList,
     pub(crate) stage: Stage,
 }
 
@@ -32,6 +34,7 @@ impl Bench {
             objects,
             table,
             content: PlainContent::new(alloc),
+            batch: ListOf::new(alloc),
             stage: Stage::new(alloc),
         })
     }

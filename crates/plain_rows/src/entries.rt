@@ -3,7 +3,7 @@ use crate::bench::Bench;
 use crate::reading::{name_of, number, path_of, record_of, update_of};
 use crate::table::add_table;
 use gt_list::ListOf;
-use gt_model::{Added, AddedRecords, Change, Entry, RefUpdates};
+use gt_model::{Added, AddedRecords, Change, Entry, EntryList, RefUpdates};
 use gt_name::Names;
 use gt_objset::ObjSet;
 use gt_plain::PlainContent;
@@ -91,7 +91,7 @@ fn housed(kind: &str, file: u64, dropped: Names) -> Option<Change> {
     }
 }
 
-/// Adds the entry in hand: `ok`, or what stands against it. The table takes it out of the hand.
+/// Adds the entry in hand: `ok`, or what stands against it. The table and the batch take it out of the hand.
 pub(crate) fn add(alloc: Global, bench: &mut Bench, place: &str) -> &'static str {
     let Some(entry) = bench.entry.take() else {
         return "no entry";
@@ -99,9 +99,19 @@ pub(crate) fn add(alloc: Global, bench: &mut Bench, place: &str) -> &'static str
     if place == "table" {
         return add_table(alloc, &mut bench.table, entry);
     }
+    if place == "batch" {
+        return add_batch(&mut bench.batch, entry);
+    }
     let answer = add_in(alloc, bench, place, &entry);
     bench.entry = Some(entry);
     answer
+}
+
+fn add_batch(batch: &mut EntryList, entry: Entry) -> &'static str {
+    match batch.push(entry) {
+        Ok(()) => "ok",
+        Err(_) => "memory",
+    }
 }
 
 fn add_in(alloc: Global, bench: &mut Bench, place: &str, entry: &Entry) -> &'static str {

@@ -3,9 +3,11 @@
 #![tactic(auto)]
 
 mod asked;
+mod batches;
 mod bench;
 mod changing;
 mod entries;
+mod jobs;
 mod looking;
 mod numbered;
 mod objects;

@@ -1,7 +1,7 @@
 //! Words of a row. A name of an object is 40 hex digits, or `0` for no object; a content is hex digits, or `-` for none.
 use gt_list::ListOf;
-use gt_model::RefUpdate;
-use gt_name::{Name, Names2, RefName, RepoPath};
+use gt_model::{Job, RefUpdate};
+use gt_name::{Name, Names, Names2, RefName, RepoPath};
 use gt_object::{Kind, Record};
 use std::alloc::Global;
 
@@ -31,6 +31,28 @@ pub(crate) fn refs_of(alloc: Global, words: &str) -> Option<Names2> {
         list.push(ref_of(alloc, word)?).ok()?;
     }
     Some(list)
+}
+
+/// Names of objects, each word one.
+pub(crate) fn names_of(alloc: Global, words: &str) -> Option<Names> {
+    let mut list = ListOf::new(alloc);
+    if words.is_empty() {
+        return Some(list);
+    }
+    for word in words.split(' ') {
+        list.push(name_of(word)?).ok()?;
+    }
+    Some(list)
+}
+
+pub(crate) fn job_of(word: &str) -> Option<Job> {
+    match word {
+        "repack" => Some(Job::Repack),
+        "prune" => Some(Job::Prune),
+        "packrefs" => Some(Job::PackRefs),
+        "unlink" => Some(Job::Unlink),
+        _ => None,
+    }
 }
 
 /// `REFERENCE OLD NEW`, an update, or `REFERENCE OLD -`, a check.

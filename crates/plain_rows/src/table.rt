@@ -1,7 +1,7 @@
 //! The table of a log.
 ghost use Rattle.std.specs.Prelude.{◌≡◌, ◌≤◌, ◌+◌, None, IsTrue, length};
 ghost use Rattle.gt_model.specs.Contents.{fits as is_fit};
-ghost use Rattle.gt_model.specs.Machine.{content};
+ghost use Rattle.gt_table.specs.Table.{content};
 ghost use Rattle.gt_table.specs.Built.{is_built, IsBuilt};
 
 use crate::asked::Asked;

@@ -1,0 +1,10 @@
+use Rattle.std.proofs.Common.{ℕ, List, Option, ap, sym, ◌∙◌}
+use Rattle.std.specs.Option.{option_copied}
+use Rattle.std.specs.FinMap as map
+use Rattle.gt_model.specs.Contents.{pool_own}
+use Rattle.gt_model.proofs.Checks.{entries-empty}
+use Rattle.gt_plain_jobs.proofs.objects.pooled.Goals as goal
+
+pub returns-in-None : goal.returns-in-None
+returns-in-None c =
+    c.new.ensures.items ∙ sym (ap (λ (o : Option (List ℕ)). map.entries (pool_own c.args.content.now o)) (sym c.pool_of.ensures ∙ ap option_copied c.in-None.is) ∙ entries-empty (List ℕ))
