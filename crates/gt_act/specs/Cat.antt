@@ -34,6 +34,10 @@ abbrev pub HeldSo : Option Place → (Place → Type 0) → Type 0
 HeldSo None holds = ⊥
 HeldSo (Some place) holds = holds place
 
+-- The disk holds a record of that name at the object's place.
+abbrev pub CatNamed : State → ℕ → List ℕ → Files → Type 0
+CatNamed s pin name files = HeldSo (place_at s.log (pin_of s pin).position (pin_of s pin).path name) (λ place. sha1 (piece (files place.file) place) ≡ name)
+
 abbrev pub CatGives : State → ℕ → List ℕ → Files → Result Done Refusal → Type 0
 CatGives s pin name files (Ok (Object whole)) = HeldSo (place_at s.log (pin_of s pin).position (pin_of s pin).path name) (λ place. whole ≡ piece (files place.file) place)
 CatGives s pin name files (Ok done) = Unit {0}

@@ -1,4 +1,4 @@
-ghost use Rattle.std.specs.Prelude.{◌≡◌, ◌≤◌, ◌+◌, IsTrue, IfOk, None, Err, true};
+ghost use Rattle.std.specs.Prelude.{◌≡◌, ◌≤◌, ◌+◌, IsTrue, IfOk, None, Err, true, false, length};
 ghost use Rattle.gt_model.specs.declared.event.Event.{Event};
 ghost use Rattle.gt_model.specs.declared.refusal.Refusal.{Refusal as Why};
 ghost use Rattle.gt_model.specs.Contents.{nothing, after_all, has_repo, least_member};
@@ -7,6 +7,7 @@ ghost use Rattle.gt_model.specs.Machine.{Step, Acts};
 ghost use Rattle.gt_act.specs.Book.{state_of};
 ghost use Rattle.gt_act.specs.Causes.{CallCause, settling_calls};
 ghost use Rattle.gt_act.specs.Ended.{answer_of, IsKeptOf};
+ghost use Rattle.gt_act.specs.declared.ended.Ended.{Ended as End};
 ghost use Rattle.gt_base.specs.Histories.{Moves};
 
 use crate::book::Book;
@@ -49,6 +50,7 @@ fn delete_settled<D: Disk>(
     path: &RepoPath,
 ) -> Reply
     requires { book.old.journal.doubt ≡ None }
+    ensures lacks { has_repo (after_all nothing book.old.journal.log) path.now ≡ false → result.answer ≡ Err Why.NoRepository }
     ensures acts { Acts limits.now (state_of book.old) (Event.Delete path.now) result.answer (state_of book.new) }
     ensures kept { IsKeptOf (state_of book.old) (Event.Delete path.now) result }
     ensures pins { book.new.live ≡ book.old.live }
@@ -96,6 +98,7 @@ fn delete_unused<D: Disk>(
     requires settled { book.old.journal.doubt ≡ None }
     requires there { has_repo (after_all nothing book.old.journal.log) path.now ≡ true }
     requires unused { least_member (after_all nothing book.old.journal.log) path.now ≡ None }
+    ensures full { limits.now.positions ≤ length book.old.journal.log → result ≡ End.LogFull }
     ensures acts { Acts limits.now (state_of book.old) (Event.Delete path.now) (answer_of result) (state_of book.new) }
     ensures kept { kept (state_of book.old) (Event.Delete path.now) (answer_of result) ≡ answer_of result }
     ensures pins { book.new.live ≡ book.old.live }

@@ -1,9 +1,11 @@
-ghost use Rattle.std.specs.Prelude.{◌≡◌, ◌≤◌, ◌+◌, true, IsTrue};
+ghost use Rattle.std.specs.Prelude.{◌≡◌, ◌⊎◌, ◌≤◌, ◌+◌, true, IsTrue, None, Err};
 ghost use Rattle.gt_disk.specs.Files.{Quiet};
 ghost use Rattle.gt_model.specs.declared.event.Event.{Event};
-ghost use Rattle.gt_model.specs.Machine.{is_live};
+ghost use Rattle.gt_model.specs.declared.refusal.Refusal.{Refusal as Why};
+ghost use Rattle.gt_model.specs.Machine.{is_live, pin_of};
+ghost use Rattle.gt_table.specs.Table.{place_at};
 ghost use Rattle.gt_act.specs.Book.{state_of};
-ghost use Rattle.gt_act.specs.Cat.{CatHappens, CatGives};
+ghost use Rattle.gt_act.specs.Cat.{CatHappens, CatGives, CatNamed};
 ghost use Rattle.gt_act.specs.Causes.{CallCause};
 ghost use Rattle.gt_act.specs.Ended.{IsKeptOf};
 
@@ -30,6 +32,8 @@ pub fn cat<D: Disk>(
     ensures happens { CatHappens limits.now (state_of book.now) pin.now name.now result.answer }
     ensures kept { IsKeptOf (state_of book.now) (Event.Cat pin.now name.now) result }
     ensures gives { IsTrue D.tells → CatGives (state_of book.now) pin.now name.now (D.view disk.old).reads result.answer }
+    ensures hidden { place_at book.now.journal.log (pin_of (state_of book.now) pin.now).position (pin_of (state_of book.now) pin.now).path name.now ≡ None → result.answer ≡ Err (Why.Absent name.now) }
+    ensures memory { IsTrue D.tells → result.answer ≡ Err Why.Memory → (disk.new ≡ disk.old) ⊎ CatNamed (state_of book.now) pin.now name.now (D.view disk.old).reads }
     ensures cause { CallCause (D.fault_count disk.old) (D.fault_count disk.new) result.answer }
     ensures counted { D.call_count disk.new ≤ D.call_count disk.old + 1 }
     ensures later { (D.view disk.old).clock ≤ (D.view disk.new).clock }

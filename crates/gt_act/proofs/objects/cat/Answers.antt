@@ -1,4 +1,5 @@
-use Rattle.std.proofs.Common.{◌≡◌, length, nat_eq, is_some, Option, Result, Ok, refl, sym, ap, subst, ◌∙◌}
+use Rattle.std.proofs.Common.{◌≡◌, inl, inr, ⊎_elim, length, nat_eq, is_some, Option, Result, Ok, refl, sym, ap, subst, ◌∙◌}
+use Rattle.sha1.specs.Sha1.{sha1}
 use Rattle.gt_model.specs.declared.done.Done.{Done}
 use Rattle.gt_model.specs.declared.done.Done.TheVariants.{Finished}
 use Rattle.gt_model.specs.declared.refusal.Refusal.{Refusal}
@@ -100,3 +101,14 @@ returns-in-Err-Memory-clause-happens g c =
     let here : pin_in (state_of c.args.book.now) c.args.pin.now ≡ p = found_pin l pins c.args.pin.now p c.get-live.ensures in
     let limits = c.args.limits.now in
     subst (λ (a : Result Done Refusal). CatHappens limits (state_of c.args.book.now) c.args.pin.now c.args.name.now a) (sym c.of-in-Err-Memory.ensures.answer) (object_without_memory limits l pins c.args.pin.now c.requires p here c.args.name.now)
+
+pub returns-in-Err-Memory-clause-memory : goal.returns-in-Err-Memory-clause-memory
+returns-in-Err-Memory-clause-memory g c told is =
+    let l = c.args.book.now.journal in
+    let pins = c.args.book.now.live in
+    let p = pin_of c.get-live.result.now in
+    let here : pin_in (state_of c.args.book.now) c.args.pin.now ≡ p = found_pin l pins c.args.pin.now p c.get-live.ensures in
+    let files = (g.D.Disk.view c.args.disk.now).reads in
+    let at = sym (rw c.table.ensures at c.place_at.ensures.place) ∙ c.in-Some.is in
+    let wants = rw c.in-Err-Memory.field-0-is at c.in-Err-Memory.ensures.memory in
+    ⊎_elim (λ same. inl same) (λ named. inr (held_so c.args.limits.now l pins c.args.pin.now c.requires p here c.args.name.now c.in-Some.place (λ (place : Place). sha1 (piece (files place.file) place) ≡ c.args.name.now) at named)) (wants told refl)
