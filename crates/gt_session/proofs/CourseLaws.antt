@@ -12,7 +12,7 @@ use Rattle.gt_model.specs.declared.who.Who.{Who}
 use Rattle.gt_script.specs.declared.form.Form.{Form}
 use Rattle.gt_stage.specs.Staging.{Holding, empty_stage, own_ref}
 use Rattle.gt_session.specs.Sessions.{Open, Session, begun, heard, told}
-use Rattle.gt_session.specs.Courses.{MapEvent, Turned, Course, refused, with_path, unless_open, alone, reads, old_in, with_old, with_open, with_ref, course, opened}
+use Rattle.gt_session.specs.Courses.{MapEvent, Turned, Course, refuses, with_path, unless_open, alone, reads, old_in, with_old, with_open, with_ref, course, opened}
 use Rattle.gt_session.specs.Calls.{Takes, Makes, Does}
 use Rattle.gt_session.specs.Pieces.{IsCause, path_cause, Turns, TurnsStage, IsOldIn, FindsOwn, FindsOld, open_with, session_with}
 
@@ -66,14 +66,14 @@ begun_seen number_of s partition answer number seen stage (Some p) same shut hea
 
 module _ {P : Type 0} (Did : ℕ → Who → Event → Result Done Refusal → Option ℕ → P → P → Type 0) (Mapped : Who → List ℕ → MapEvent → Result (Option ℕ) Refusal → P → P → Type 0) (who : Who) (s : Session) (old : P) where
   -- the path is bad, or memory is wanted for it, where the course may want memory
-  path_refused_at : (at : Option ℕ) (course : Course) (refusal : Refusal) → Takes Did Mapped who s course (Err Memory, s) old old → IsCause (option_map BadPath at) refusal → Takes Did Mapped who s (elim at [ None ↦ course | Some p ↦ refused s (BadPath p) ]) (Err refusal, s) old old
+  path_refused_at : (at : Option ℕ) (course : Course) (refusal : Refusal) → Takes Did Mapped who s course (Err Memory, s) old old → IsCause (option_map BadPath at) refusal → Takes Did Mapped who s (elim at [ None ↦ course | Some p ↦ refuses (BadPath p) ]) (Err refusal, s) old old
   path_refused_at None course refusal may e = subst (λ (r : Refusal). Takes Did Mapped who s course (Err r, s) old old) (sym e) may
-  path_refused_at (Some p) course refusal may e = inl (ap (λ (r : Refusal). (Err r, s)) e, refl)
+  path_refused_at (Some p) course refusal may e = (ap (λ (r : Refusal). (Err r, s)) e, refl)
 
-  -- a path that is refused, where nothing is open
-  pub path_refused : (text : List ℕ) (course : Course) (refusal : Refusal) → Takes Did Mapped who s course (Err Memory, s) old old → s.open ≡ None → IsCause (path_cause text) refusal → Takes Did Mapped who s (unless_open s (with_path s text course)) (Err refusal, s) old old
+  -- a path that is refuses, where nothing is open
+  pub path_refused : (text : List ℕ) (course : Course) (refusal : Refusal) → Takes Did Mapped who s course (Err Memory, s) old old → s.open ≡ None → IsCause (path_cause text) refusal → Takes Did Mapped who s (unless_open s (with_path text course)) (Err refusal, s) old old
   path_refused text course refusal may shut e =
-      let F : Option Open → Type 0 = λ o. Takes Did Mapped who s (elim o [ None ↦ with_path s text course | Some p ↦ refused s AlreadyOpen ]) (Err refusal, s) old old in
+      let F : Option Open → Type 0 = λ o. Takes Did Mapped who s (elim o [ None ↦ with_path text course | Some p ↦ refuses AlreadyOpen ]) (Err refusal, s) old old in
       subst F (sym shut) (path_refused_at (bad_path text) course refusal may e)
 
 -- a reference is staged with the old value that was found
@@ -83,7 +83,7 @@ pub reference_taken :
     → s ≡ session_with number seen (open_with partition pin stage) → end' ≡ session_with number seen (open_with partition pin after) → name ≡ word → bad_ref word ≡ None
     → FindsOld (λ e a. Did partition (record { session = number; line = line }) e a None) (open_with partition pin stage) name given (Ok v) old new
     → TurnsStage (λ s o. turn s o name v) stage answer after
-    → Takes Did Mapped (record { session = s.number; line = line }) s (with_open s (λ o. with_ref s word (with_old s o word given (turn s o word)))) (answer, end') old new
+    → Takes Did Mapped (record { session = s.number; line = line }) s (with_open s (λ o. with_ref word (with_old s o word given (turn s o word)))) (answer, end') old new
 reference_taken {P = P} Did Mapped line turn s end' number seen partition pin stage after word name given v answer old new es ee en eb found turns =
     let o : Open = open_with partition pin stage in
     let t : Session = session_with number seen o in
@@ -91,9 +91,9 @@ reference_taken {P = P} Did Mapped line turn s end' number seen partition pin st
     let who : Who = record { session = number; line = line } in
     let F : List ℕ → Type 0 = λ w. FindsOld (λ e a. Did partition who e a None) o w given (Ok v) old new in
     let T : List ℕ → Type 0 = λ w. Turns t (turn t o w v) (answer, e) in
-    let B : Option (ℕ × ℕ) → Type 0 = λ b. Takes Did Mapped who t (elim b [ None ↦ with_old t o word given (turn t o word) | Some bad ↦ refused t (BadRef bad.0 bad.1) ]) (answer, e) old new in
-    let E : Session → Type 0 = λ x. Takes Did Mapped who t (with_open t (λ o. with_ref t word (with_old t o word given (turn t o word)))) (answer, x) old new in
-    let S : Session → Type 0 = λ x. Takes Did Mapped (record { session = x.number; line = line }) x (with_open x (λ o. with_ref x word (with_old x o word given (turn x o word)))) (answer, end') old new in
+    let B : Option (ℕ × ℕ) → Type 0 = λ b. Takes Did Mapped who t (elim b [ None ↦ with_old t o word given (turn t o word) | Some bad ↦ refuses (BadRef bad.0 bad.1) ]) (answer, e) old new in
+    let E : Session → Type 0 = λ x. Takes Did Mapped who t (with_open t (λ o. with_ref word (with_old t o word given (turn t o word)))) (answer, x) old new in
+    let S : Session → Type 0 = λ x. Takes Did Mapped (record { session = x.number; line = line }) x (with_open x (λ o. with_ref word (with_old x o word given (turn x o word)))) (answer, end') old new in
     subst S (sym es) (subst E (sym ee) (subst B (sym eb) (old_taken Did Mapped who t (answer, e) old new o word (turn t o word) v given (subst F en found) (subst T en (turns number seen partition pin)))))
 
 -- a line of a form that is known, done with a word that is known

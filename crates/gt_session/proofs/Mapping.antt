@@ -8,7 +8,7 @@ use Rattle.gt_model.specs.declared.refusal.Refusal.{Refusal}
 use Rattle.gt_model.specs.declared.who.Who.{Who}
 use Rattle.gt_script.specs.declared.form.Form.{Form}
 use Rattle.gt_session.specs.Sessions.{Open, Session}
-use Rattle.gt_session.specs.Courses.{MapEvent, Turned, Course, alone, finds, asks, reads, course}
+use Rattle.gt_session.specs.Courses.{MapEvent, Turned, Course, refuses, alone, finds, asks, reads, course}
 use Rattle.gt_session.specs.Calls.{Takes, Makes, Answers, Follows, Does, GivesUp}
 use Rattle.gt_session.specs.Together.{Requests, GiveUp}
 
@@ -37,6 +37,7 @@ module _ {P Q : Type 0} (Did : ℕ → Who → Event → Result Done Refusal →
     follows_map who s event (Ok (Some partition)) turned p p' h = (h.0, answers_map who s partition (event partition) turned p p' h.1)
 
     pub takes_map : (who : Who) (s : Session) (c : Course) (turned : Turned) (p p' : P) → Takes Did Mapped who s c turned p p' → Takes Was WasMapped who s c turned (stands p) (stands p')
+    takes_map who s (refuses refusal) turned p p' h = (h.0, ap stands h.1)
     takes_map who s (alone answered) turned p p' (inl h) = inl (h.0, ap stands h.1)
     takes_map who s (alone answered) turned p p' (inr h) = inr (h.0, ap stands h.1)
     takes_map who s (finds path e event) turned p p' (inl h) = inl (stands h.0, h.1, maps who path e h.1 p h.0 h.2, follows_map who s event h.1 turned h.0 p' h.3)

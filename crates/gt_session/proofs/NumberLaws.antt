@@ -18,32 +18,33 @@ use Rattle.gt_script.specs.declared.form.Form.{Form}
 use Rattle.gt_script.specs.declared.form.Form.TheVariants as line
 use Rattle.gt_stage.specs.Staging.{Holding, own_ref, own_record, is_over_refs, is_over_bytes, staged_set, staged_check, staged_put}
 use Rattle.gt_session.specs.Sessions.{Open, Session, forgotten, seen_of, told}
-use Rattle.gt_session.specs.Courses.{Turned, Course, MapEvent, ask, assign, alone, finds, asks, reads, refused, with_path, with_ref, staged, put_record, refusal_of, put, set, check, old_in, with_old, value_of, get, list_in, cat, content_of, course, ends, after_event}
+use Rattle.gt_session.specs.Courses.{Turned, Course, MapEvent, ask, assign, alone, finds, asks, reads, refuses, with_path, with_ref, staged, put_record, refusal_of, put, set, check, old_in, with_old, value_of, get, list_in, cat, content_of, course, ends, after_event}
 use Rattle.gt_session.specs.Calls.{Takes, Makes, Answers, Follows, Does}
 
 -- ---- a course that leaves the number
 
 abbrev Keeps : Session → Course → Type 0
 Keeps s (alone turned) = turned.1.number ≡ s.number
+Keeps s (refuses refusal) = Unit {0}
 Keeps s (finds path e event) = Unit {0}
 Keeps s (asks partition e) = Unit {0}
 Keeps s (reads partition e make) = (done : Done) → (make done).1.number ≡ s.number
 
-path_keeps : (s : Session) (bad : Option ℕ) (c : Course) → Keeps s c → Keeps s (elim bad [ None ↦ c | Some at ↦ refused s (BadPath at) ])
+path_keeps : (s : Session) (bad : Option ℕ) (c : Course) → Keeps s c → Keeps s (elim bad [ None ↦ c | Some at ↦ refuses (BadPath at) ])
 path_keeps s None c k = k
-path_keeps s (Some at) c k = refl
+path_keeps s (Some at) c k = tt
 
-ref_keeps : (s : Session) (bad : Option (ℕ × ℕ)) (c : Course) → Keeps s c → Keeps s (elim bad [ None ↦ c | Some b ↦ refused s (BadRef b.0 b.1) ])
+ref_keeps : (s : Session) (bad : Option (ℕ × ℕ)) (c : Course) → Keeps s c → Keeps s (elim bad [ None ↦ c | Some b ↦ refuses (BadRef b.0 b.1) ])
 ref_keeps s None c k = k
-ref_keeps s (Some b) c k = refl
+ref_keeps s (Some b) c k = tt
 
-open_keeps : (s : Session) (o : Option Open) (c : Open → Course) → ((o : Open) → Keeps s (c o)) → Keeps s (elim o [ None ↦ refused s NotOpen | Some o ↦ c o ])
-open_keeps s None c k = refl
+open_keeps : (s : Session) (o : Option Open) (c : Open → Course) → ((o : Open) → Keeps s (c o)) → Keeps s (elim o [ None ↦ refuses NotOpen | Some o ↦ c o ])
+open_keeps s None c k = tt
 open_keeps s (Some o) c k = k o
 
-shut_keeps : (s : Session) (o : Option Open) (c : Course) → Keeps s c → Keeps s (elim o [ None ↦ c | Some o ↦ refused s AlreadyOpen ])
+shut_keeps : (s : Session) (o : Option Open) (c : Course) → Keeps s c → Keeps s (elim o [ None ↦ c | Some o ↦ refuses AlreadyOpen ])
 shut_keeps s None c k = k
-shut_keeps s (Some o) c k = refl
+shut_keeps s (Some o) c k = tt
 
 staged_number : (s : Session) (o : Open) (over : Bool) (stage : Holding) (done : Done) → (staged s o over stage done).1.number ≡ s.number
 staged_number s o true stage done = refl
@@ -85,16 +86,16 @@ KeepsIf s (Some c) = Keeps s c
 course_keeps : (s : Session) (form : Form) → KeepsIf s (course s form)
 course_keeps s (line.Create path None) = path_keeps s (bad_path path) (finds path (assign None) (λ p. event.Create path false)) tt
 course_keeps s (line.Delete path) = path_keeps s (bad_path path) (finds path ask (λ p. event.Delete path)) tt
-course_keeps s (line.Begin path None) = shut_keeps s s.open (with_path s path (finds path ask (λ p. event.Begin path (seen_of s p)))) (path_keeps s (bad_path path) (finds path ask (λ p. event.Begin path (seen_of s p))) tt)
+course_keeps s (line.Begin path None) = shut_keeps s s.open (with_path path (finds path ask (λ p. event.Begin path (seen_of s p)))) (path_keeps s (bad_path path) (finds path ask (λ p. event.Begin path (seen_of s p))) tt)
 course_keeps s (line.Put kind content) = open_keeps s s.open (λ o. alone (put s o kind (content_of content))) (λ o. put_number s o kind (content_of content))
 course_keeps s (line.Set name old new) =
-    open_keeps s s.open (λ o. with_ref s name (with_old s o name old (set s o name new))) (λ o.
+    open_keeps s s.open (λ o. with_ref name (with_old s o name old (set s o name new))) (λ o.
     ref_keeps s (bad_ref name) (with_old s o name old (set s o name new)) (old_keeps s o name old (set s o name new) (λ v. staged_number s o (is_over_refs o.stage name) (staged_set o.stage name v new) Staged)))
 course_keeps s (line.Verify name old) =
-    open_keeps s s.open (λ o. with_ref s name (with_old s o name old (check s o name))) (λ o.
+    open_keeps s s.open (λ o. with_ref name (with_old s o name old (check s o name))) (λ o.
     ref_keeps s (bad_ref name) (with_old s o name old (check s o name)) (old_keeps s o name old (check s o name) (λ v. staged_number s o (is_over_refs o.stage name) (staged_check o.stage name v) Checked)))
 course_keeps s (line.Get name) =
-    open_keeps s s.open (λ o. with_ref s name (get s o name)) (λ o. ref_keeps s (bad_ref name) (get s o name) (get_keeps s o name (own_ref o.stage.staged.refs name)))
+    open_keeps s s.open (λ o. with_ref name (get s o name)) (λ o. ref_keeps s (bad_ref name) (get s o name) (get_keeps s o name (own_ref o.stage.staged.refs name)))
 course_keeps s (line.List prefix) = open_keeps s s.open (λ o. reads o.partition (event.ListRefs o.pin prefix) (list_in s o prefix)) (λ o. list_number s o prefix)
 course_keeps s (line.Cat name) = open_keeps s s.open (λ o. cat s o name) (λ o. cat_keeps s o name (own_record o.stage.staged.records name))
 course_keeps s line.Commit = open_keeps s s.open (λ o. asks o.partition (event.Commit o.pin o.stage.staged.refs o.stage.staged.records)) (λ o. tt)
@@ -134,6 +135,7 @@ module _ {P : Type 0} (Did : ℕ → Who → Event → Result Done Refusal → O
   follows_number event (Ok (Some partition)) turned old new h = answers_number partition (event partition) turned old new h.1
 
   takes_number : (c : Course) (turned : Turned) (old new : P) → Keeps s c → Takes Did Mapped who s c turned old new → turned.1.number ≡ s.number
+  takes_number (refuses refusal) turned old new k h = turned_number turned (Err refusal, s) h.0 refl
   takes_number (alone answered) turned old new k (inl h) = turned_number turned answered h.0 k
   takes_number (alone answered) turned old new k (inr h) = turned_number turned (Err Memory, s) h.0 refl
   takes_number (finds path e event) turned old new k (inl h) = follows_number event h.1 turned h.0 new h.3

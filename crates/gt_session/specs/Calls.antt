@@ -10,7 +10,7 @@ use Rattle.gt_model.specs.declared.refusal.Refusal.TheVariants.{Memory, NoReposi
 use Rattle.gt_model.specs.declared.who.Who.{Who}
 use Rattle.gt_model.specs.Machine.{is_certain}
 use Rattle.gt_session.specs.Sessions.{IsPartition, Open, Session}
-use Rattle.gt_session.specs.Courses.{MapEvent, Course, alone, finds, asks, reads, Turned, begins, after_event}
+use Rattle.gt_session.specs.Courses.{MapEvent, Course, refuses, alone, finds, asks, reads, Turned, begins, after_event}
 
 -- ---- the numbers of live passes, by partition
 
@@ -82,6 +82,7 @@ module _ {P : Type 0} (Did : ℕ → Who → Event → Result Done Refusal → O
 
   -- The line takes its course: its answer, the session and the partitions after it.
   abbrev pub Takes : Session → Course → Turned → P → P → Type 0
+  Takes s (refuses refusal) turned old new = (turned ≡ (Err refusal, s)) × (new ≡ old)
   Takes s (alone answered) turned old new = ((turned ≡ answered) × (new ≡ old)) ⊎ Stops s turned old new
   Takes s (finds path e event) turned old new = ((mid : P) × (found : Result (Option ℕ) Refusal) × Mapped who path e found old mid × Follows s event found turned mid new) ⊎ Stops s turned old new
   Takes s (asks partition e) turned old new = Answers s partition e turned old new ⊎ ((is_certain e ≡ false) × Stops s turned old new)

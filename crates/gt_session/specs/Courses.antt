@@ -35,30 +35,28 @@ pub data MapEvent : Type 0 where
   ask : MapEvent
   assign : Option ℕ → MapEvent
 
--- The session answers by itself. Or the map says the partition of a path, and the answer is the one there to the event that is made for it; a path without one has no repository. Or the answer is the one of this partition to an event. Or the session makes its own answer of what this partition read for it, whose refusals stand.
+-- The session refuses by itself, and wants no memory for it. Or it answers by itself. Or the map says the partition of a path, and the answer is the one there to the event that is made for it; a path without one has no repository. Or the answer is the one of this partition to an event. Or the session makes its own answer of what this partition read for it, whose refusals stand.
 pub data Course : Type 0 where
+  refuses : Refusal → Course
   alone : Turned → Course
   finds : List ℕ → MapEvent → (ℕ → Event) → Course
   asks : ℕ → Event → Course
   reads : ℕ → Event → (Done → Turned) → Course
 
-abbrev pub refused : Session → Refusal → Course
-refused s refusal = alone (Err refusal, s)
-
 -- ---- the words of a line
 
-abbrev pub with_path : Session → List ℕ → Course → Course
-with_path s text course = elim (bad_path text) [ None ↦ course | Some at ↦ refused s (BadPath at) ]
+abbrev pub with_path : List ℕ → Course → Course
+with_path text course = elim (bad_path text) [ None ↦ course | Some at ↦ refuses (BadPath at) ]
 
-abbrev pub with_ref : Session → List ℕ → Course → Course
-with_ref s text course = elim (bad_ref text) [ None ↦ course | Some bad ↦ refused s (BadRef bad.0 bad.1) ]
+abbrev pub with_ref : List ℕ → Course → Course
+with_ref text course = elim (bad_ref text) [ None ↦ course | Some bad ↦ refuses (BadRef bad.0 bad.1) ]
 
 -- what is to be done with the transaction that is open
 abbrev pub with_open : Session → (Open → Course) → Course
-with_open s course = elim s.open [ None ↦ refused s NotOpen | Some o ↦ course o ]
+with_open s course = elim s.open [ None ↦ refuses NotOpen | Some o ↦ course o ]
 
 abbrev pub unless_open : Session → Course → Course
-unless_open s course = elim s.open [ None ↦ course | Some o ↦ refused s AlreadyOpen ]
+unless_open s course = elim s.open [ None ↦ course | Some o ↦ refuses AlreadyOpen ]
 
 abbrev pub decoded : Result (List ℕ) FromHexError → List ℕ
 decoded (Ok bytes) = bytes
@@ -132,13 +130,13 @@ cat s o name = elim (own_record o.stage.staged.records name) [ Some whole ↦ al
 
 -- what a line of a session comes to; the forms that no session does yet have no course
 abbrev pub course : Session → Form → Option Course
-course s (line.Create path None) = Some (with_path s path (finds path (assign None) (λ p. event.Create path false)))
-course s (line.Delete path) = Some (with_path s path (finds path ask (λ p. event.Delete path)))
-course s (line.Begin path None) = Some (unless_open s (with_path s path (finds path ask (λ p. event.Begin path (seen_of s p)))))
+course s (line.Create path None) = Some (with_path path (finds path (assign None) (λ p. event.Create path false)))
+course s (line.Delete path) = Some (with_path path (finds path ask (λ p. event.Delete path)))
+course s (line.Begin path None) = Some (unless_open s (with_path path (finds path ask (λ p. event.Begin path (seen_of s p)))))
 course s (line.Put kind content) = Some (with_open s (λ o. alone (put s o kind (content_of content))))
-course s (line.Set name old new) = Some (with_open s (λ o. with_ref s name (with_old s o name old (set s o name new))))
-course s (line.Verify name old) = Some (with_open s (λ o. with_ref s name (with_old s o name old (check s o name))))
-course s (line.Get name) = Some (with_open s (λ o. with_ref s name (get s o name)))
+course s (line.Set name old new) = Some (with_open s (λ o. with_ref name (with_old s o name old (set s o name new))))
+course s (line.Verify name old) = Some (with_open s (λ o. with_ref name (with_old s o name old (check s o name))))
+course s (line.Get name) = Some (with_open s (λ o. with_ref name (get s o name)))
 course s (line.List prefix) = Some (with_open s (λ o. reads o.partition (event.ListRefs o.pin prefix) (list_in s o prefix)))
 course s (line.Cat name) = Some (with_open s (λ o. cat s o name))
 course s line.Commit = Some (with_open s (λ o. asks o.partition (event.Commit o.pin o.stage.staged.refs o.stage.staged.records)))

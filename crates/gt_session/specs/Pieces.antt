@@ -18,7 +18,7 @@ use Rattle.gt_stage.specs.declared.error.StageError.{StageError}
 use Rattle.gt_stage.specs.declared.error.StageError.TheVariants as stage
 use Rattle.gt_stage.specs.Staging.{Holding, own_ref}
 use Rattle.gt_session.specs.Sessions.{Open, Session}
-use Rattle.gt_session.specs.Courses.{Course, alone, finds, asks, reads, Turned, old_in, laid_over}
+use Rattle.gt_session.specs.Courses.{Course, refuses, alone, finds, asks, reads, Turned, old_in, laid_over}
 
 -- ---- the words of a line
 
@@ -40,6 +40,7 @@ abbrev pub Turns : Session → Turned → Turned → Type 0
 Turns s answered turned = (turned ≡ answered) ⊎ (turned ≡ (Err Memory, s))
 
 abbrev pub IsAlone : Session → Course → Turned → Type 0
+IsAlone s (refuses refusal) turned = turned ≡ (Err refusal, s)
 IsAlone s (alone answered) turned = Turns s answered turned
 IsAlone s (finds path e event) turned = ⊥
 IsAlone s (asks partition e) turned = ⊥

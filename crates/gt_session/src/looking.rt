@@ -25,7 +25,7 @@ impl<T: Numbered> Session<T> {
         word: &[u8],
     ) -> Answer
         requires held { IsHeld (pass_in self.old) (P.live parts.old) }
-        ensures takes { Takes P.did P.mapped (record { session = self.old.number; line = line }) self.old (with_open self.old (λ o. with_ref self.old word.now (get self.old o word.now))) (result, self.new) parts.old parts.new }
+        ensures takes { Takes P.did P.mapped (record { session = self.old.number; line = line }) self.old (with_open self.old (λ o. with_ref word.now (get self.old o word.now))) (result, self.new) parts.old parts.new }
         ensures live { P.live parts.new ≡ P.live parts.old }
         ensures pass { pass_in self.new ≡ pass_in self.old }
     {

@@ -1,4 +1,6 @@
-ghost use Rattle.std.specs.Prelude.{◌≡◌, ◌≢◌, ℕ, None, true};
+ghost use Rattle.std.specs.Prelude.{◌≡◌, ◌≢◌, ℕ, None, true, IfErr};
+ghost use Rattle.gt_model.specs.declared.refusal.Refusal.{Refusal};
+ghost use Rattle.gt_script.specs.declared.form.Form.{Form};
 ghost use Rattle.gt_session.specs.Sessions.{Session as Seen, IsPartition, new_session, forgotten, pass_in};
 ghost use Rattle.gt_session.specs.Courses.{course};
 ghost use Rattle.gt_session.specs.Calls.{Does, GivesUp, IsHeld, LeavesOthers};
@@ -57,6 +59,7 @@ impl<T: Numbered> Session<T> {
         requires built { course self.old form.now ≢ None }
         requires held { IsHeld (pass_in self.old) (P.live parts.old) }
         ensures does { Does P.did P.mapped (record { session = self.old.number; line = line }) self.old (course self.old form.now) (result, self.new) parts.old parts.new }
+        ensures aborts { form.now ≡ Form.Abort → IfErr result (λ why. why ≡ Refusal.NotOpen) }
         ensures passes { LeavesOthers (pass_in self.old) (pass_in self.new) (P.live parts.old) (P.live parts.new) }
     {
         match form {

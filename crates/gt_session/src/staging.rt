@@ -41,7 +41,7 @@ impl<T: Numbered> Session<T> {
         new: Name,
     ) -> Answer
         requires held { IsHeld (pass_in self.old) (P.live parts.old) }
-        ensures takes { Takes P.did P.mapped (record { session = self.old.number; line = line }) self.old (with_open self.old (λ o. with_ref self.old word.now (with_old self.old o word.now old (set self.old o word.now new)))) (result, self.new) parts.old parts.new }
+        ensures takes { Takes P.did P.mapped (record { session = self.old.number; line = line }) self.old (with_open self.old (λ o. with_ref word.now (with_old self.old o word.now old (set self.old o word.now new)))) (result, self.new) parts.old parts.new }
         ensures live { P.live parts.new ≡ P.live parts.old }
         ensures pass { pass_in self.new ≡ pass_in self.old }
     {
@@ -81,7 +81,7 @@ impl<T: Numbered> Session<T> {
         old: Option<Name>,
     ) -> Answer
         requires held { IsHeld (pass_in self.old) (P.live parts.old) }
-        ensures takes { Takes P.did P.mapped (record { session = self.old.number; line = line }) self.old (with_open self.old (λ o. with_ref self.old word.now (with_old self.old o word.now old (check self.old o word.now)))) (result, self.new) parts.old parts.new }
+        ensures takes { Takes P.did P.mapped (record { session = self.old.number; line = line }) self.old (with_open self.old (λ o. with_ref word.now (with_old self.old o word.now old (check self.old o word.now)))) (result, self.new) parts.old parts.new }
         ensures live { P.live parts.new ≡ P.live parts.old }
         ensures pass { pass_in self.new ≡ pass_in self.old }
     {

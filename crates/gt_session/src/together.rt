@@ -1,5 +1,7 @@
 //! The sessions of a script together.
-ghost use Rattle.std.specs.Prelude.{◌≡◌, ◌≤◌, true, map, IfOk};
+ghost use Rattle.std.specs.Prelude.{◌≡◌, ◌≤◌, true, map, IfOk, IfErr};
+ghost use Rattle.gt_model.specs.declared.refusal.Refusal.{Refusal};
+ghost use Rattle.gt_script.specs.declared.form.Form.{Form};
 ghost use Rattle.gt_session.specs.Sessions.{forgotten};
 ghost use Rattle.gt_session.specs.Courses.{has_course};
 ghost use Rattle.gt_session.specs.Together.{sessions_from, Requests, GiveUp, AreHeld};
@@ -55,6 +57,7 @@ impl<T: Numbered> Sessions<T> {
         requires built { has_course form.now ≡ true }
         requires held { AreHeld self.old (P.live parts.old) }
         ensures does { Requests P.did P.mapped line session form.now result self.old self.new parts.old parts.new }
+        ensures aborts { form.now ≡ Form.Abort → IfErr result (λ why. why ≡ Refusal.NotOpen) }
         ensures held { AreHeld self.new (P.live parts.new) }
     {
         self.all[session as usize - 1].request(alloc, parts, line, form)

@@ -1,6 +1,7 @@
 //! What makes and ends repositories and transactions.
-ghost use Rattle.std.specs.Prelude.{◌≡◌, false, None, Some};
+ghost use Rattle.std.specs.Prelude.{◌≡◌, false, None, Some, IfErr};
 ghost use Rattle.gt_model.specs.declared.event.Event.{Event};
+ghost use Rattle.gt_model.specs.declared.refusal.Refusal.{Refusal};
 ghost use Rattle.gt_session.specs.Sessions.{Open, Session as Seen, IsPartition, pass_in, seen_of};
 ghost use Rattle.gt_session.specs.Courses.{with_open, with_path, unless_open, finds, asks, ask, assign};
 ghost use Rattle.gt_session.specs.Calls.{Takes, Answers, IsHeld, LeavesOthers};
@@ -22,7 +23,7 @@ impl<T: Numbered> Session<T> {
         line: u32,
         path: &[u8],
     ) -> Answer
-        ensures takes { Takes P.did P.mapped (record { session = self.old.number; line = line }) self.old (with_path self.old path.now (finds path.now (assign None) (λ p. Event.Create path.now false))) (result, self.new) parts.old parts.new }
+        ensures takes { Takes P.did P.mapped (record { session = self.old.number; line = line }) self.old (with_path path.now (finds path.now (assign None) (λ p. Event.Create path.now false))) (result, self.new) parts.old parts.new }
         ensures live { P.live parts.new ≡ P.live parts.old }
         ensures pass { pass_in self.new ≡ pass_in self.old }
     {
@@ -51,7 +52,7 @@ impl<T: Numbered> Session<T> {
         line: u32,
         path: &[u8],
     ) -> Answer
-        ensures takes { Takes P.did P.mapped (record { session = self.old.number; line = line }) self.old (with_path self.old path.now (finds path.now ask (λ p. Event.Delete path.now))) (result, self.new) parts.old parts.new }
+        ensures takes { Takes P.did P.mapped (record { session = self.old.number; line = line }) self.old (with_path path.now (finds path.now ask (λ p. Event.Delete path.now))) (result, self.new) parts.old parts.new }
         ensures live { P.live parts.new ≡ P.live parts.old }
         ensures pass { pass_in self.new ≡ pass_in self.old }
     {
@@ -82,7 +83,7 @@ impl<T: Numbered> Session<T> {
         path: &[u8],
     ) -> Answer
         requires held { IsHeld (pass_in self.old) (P.live parts.old) }
-        ensures takes { Takes P.did P.mapped (record { session = self.old.number; line = line }) self.old (unless_open self.old (with_path self.old path.now (finds path.now ask (λ p. Event.Begin path.now (seen_of self.old p))))) (result, self.new) parts.old parts.new }
+        ensures takes { Takes P.did P.mapped (record { session = self.old.number; line = line }) self.old (unless_open self.old (with_path path.now (finds path.now ask (λ p. Event.Begin path.now (seen_of self.old p))))) (result, self.new) parts.old parts.new }
         ensures passes { LeavesOthers (pass_in self.old) (pass_in self.new) (P.live parts.old) (P.live parts.new) }
     {
         if self.pass.is_some() {
@@ -154,6 +155,7 @@ impl<T: Numbered> Session<T> {
     pub(crate) fn abort<P: Parts<Pass = T>>(&mut self, parts: &mut P, line: u32) -> Answer
         requires held { IsHeld (pass_in self.old) (P.live parts.old) }
         ensures takes { Takes P.did P.mapped (record { session = self.old.number; line = line }) self.old (with_open self.old (λ o. asks o.partition (Event.Abort o.pin))) (result, self.new) parts.old parts.new }
+        ensures certain { IfErr result (λ why. why ≡ Refusal.NotOpen) }
         ensures passes { LeavesOthers (pass_in self.old) (pass_in self.new) (P.live parts.old) (P.live parts.new) }
     {
         let who = Who {

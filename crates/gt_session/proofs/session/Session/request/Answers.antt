@@ -11,21 +11,21 @@ returns-in-Create-default-None-clause-does g c =
     let i = c.in-Create-default-None in
     let s = c.args.self.now in
     let is : c.args.form.now ≡ line.Create i.path None = search rules in
-    does_as g.P.Parts.did g.P.Parts.mapped _ s _ _ _ c.args.form.now (line.Create i.path None) (λ w. with_path s w (finds w (assign None) (λ p. event.Create w false))) i.path _ is refl
+    does_as g.P.Parts.did g.P.Parts.mapped _ s _ _ _ c.args.form.now (line.Create i.path None) (λ w. with_path w (finds w (assign None) (λ p. event.Create w false))) i.path _ is refl
     c.as_slice.ensures c.create.ensures.takes
 
 pub returns-in-Delete-clause-does : goal.returns-in-Delete-clause-does
 returns-in-Delete-clause-does g c =
     let i = c.in-Delete in
     let s = c.args.self.now in
-    does_as g.P.Parts.did g.P.Parts.mapped _ s _ _ _ c.args.form.now (line.Delete i.path) (λ w. with_path s w (finds w ask (λ p. event.Delete w))) i.path _ i.is refl c.as_slice-in-Delete.ensures c.delete.ensures.takes
+    does_as g.P.Parts.did g.P.Parts.mapped _ s _ _ _ c.args.form.now (line.Delete i.path) (λ w. with_path w (finds w ask (λ p. event.Delete w))) i.path _ i.is refl c.as_slice-in-Delete.ensures c.delete.ensures.takes
 
 pub returns-in-Begin-default-None-clause-does : goal.returns-in-Begin-default-None-clause-does
 returns-in-Begin-default-None-clause-does g c =
     let i = c.in-Begin-default-None in
     let s = c.args.self.now in
     let is : c.args.form.now ≡ line.Begin i.path None = search rules in
-    does_as g.P.Parts.did g.P.Parts.mapped _ s _ _ _ c.args.form.now (line.Begin i.path None) (λ w. unless_open s (with_path s w (finds w ask (λ p. event.Begin w (seen_of s p))))) i.path _
+    does_as g.P.Parts.did g.P.Parts.mapped _ s _ _ _ c.args.form.now (line.Begin i.path None) (λ w. unless_open s (with_path w (finds w ask (λ p. event.Begin w (seen_of s p))))) i.path _
     is refl c.as_slice-in-Begin-default-None.ensures c.begin.ensures.takes
 
 pub returns-in-List-clause-does : goal.returns-in-List-clause-does
