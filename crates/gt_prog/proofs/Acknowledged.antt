@@ -1,16 +1,14 @@
 -- The positions that lines were answered are in the log that they have come to.
-use Rattle.std.proofs.Common.{◌≡◌, inl, inr, ⊎_elim, ℕ, ◌≤◌, List, [], ◌∷◌, ◌++◌, length, Option, Result, Ok, Err, refl, sym, ap, ◌∙◌, subst, arith, length-append}
+use Rattle.std.proofs.Common.{◌≡◌, inl, inr, ℕ, ◌≤◌, List, [], ◌∷◌, Option, Result, Ok, refl, sym, ap, subst, arith}
 use Rattle.std.specs.List.{AllByRecursion}
-use Rattle.gt_disk.specs.Files.{Files, View, now, IsImage}
+use Rattle.gt_disk.specs.Files.{Files, View, now}
 use Rattle.gt_model.specs.declared.done.Done.{Done}
-use Rattle.gt_model.specs.declared.done.Done.TheVariants.{Restarted}
-use Rattle.gt_model.specs.declared.entry.Entry.{Entry}
 use Rattle.gt_model.specs.declared.event.Event.{Event}
 use Rattle.gt_model.specs.declared.limits.Limits.{Limits}
 use Rattle.gt_model.specs.declared.refusal.Refusal.{Refusal}
 use Rattle.gt_model.specs.declared.who.Who.{Who}
-use Rattle.gt_model.specs.Histories.{state, position, last_state}
-use Rattle.gt_model.specs.Machine.{State, Recovered, Step, IsInOrder, MayRecover, opening, front}
+use Rattle.gt_model.specs.Histories.{position, last_state}
+use Rattle.gt_model.specs.Machine.{State, Recovered, IsInOrder, opening, front}
 use Rattle.gt_model.proofs.Steps.{step_grows, step_acked, grown_longer}
 use Rattle.gt_model.proofs.Openings.{opening_order, opening_part}
 use Rattle.gt_history.proofs.Parts.{recovered_long}
@@ -18,8 +16,7 @@ use Rattle.gt_base.specs.Histories.{Gives, Holds}
 use Rattle.gt_base.specs.Recovery.{recover}
 use Rattle.gt_script.specs.declared.form.Form.{Form}
 use Rattle.gt_script.specs.declared.form.Form.TheVariants.{Restart}
-use Rattle.gt_session.specs.Sessions.{Session}
-use Rattle.gt_prog.specs.Lines.{Line, Past, Stand, Happened, Restarts, Asked, LineBy, IsLine, AreLines, IsEnd}
+use Rattle.gt_prog.specs.Lines.{Line, Past, Stand, Happened, Restarts, LineBy, AreLines, IsEnd}
 use Rattle.gt_prog.specs.Replay.{KeepsAnswers}
 use Rattle.gt_prog.proofs.Faultless.{requests_keeps, requests_names, give_up_keeps}
 

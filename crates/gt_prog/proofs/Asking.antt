@@ -1,5 +1,5 @@
 -- What a line that a session does, and the end of all sessions, keep of the partition.
-use Rattle.std.proofs.Common.{◌≡◌, ℕ, ◌≤◌, Bool, IsTrue, List, Result, ap, ◌∙◌, arith}
+use Rattle.std.proofs.Common.{◌≡◌, ℕ, ◌≤◌, Bool, IsTrue, List, Result, ap, arith}
 use Rattle.gt_disk.specs.Files.{View, Rose}
 use Rattle.gt_model.specs.declared.done.Done.{Done}
 use Rattle.gt_model.specs.declared.refusal.Refusal.{Refusal}

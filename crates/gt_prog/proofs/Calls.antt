@@ -1,10 +1,10 @@
 -- From calls of the partition to what happens.
-use Rattle.std.proofs.Common.{◌≡◌, ◌⊎◌, inl, inr, ℕ, Bool, IsTrue, List, [], ◌∷◌, ◌++◌, Option, Some, None, Result, Ok, Err, refl, sym, ap, ap₂, ◌∙◌, subst}
+use Rattle.std.proofs.Common.{◌≡◌, ◌⊎◌, inl, inr, ℕ, Bool, IsTrue, List, [], ◌∷◌, ◌++◌, Option, Some, None, Result, Ok, Err, refl, sym, ap, ◌∙◌, subst, arith}
 use Rattle.gt_disk.specs.Files.{View}
 use Rattle.gt_model.specs.declared.done.Done.{Done}
 use Rattle.gt_model.specs.declared.done.Done.TheVariants.{Aborted}
 use Rattle.gt_model.specs.declared.event.Event.{Event}
-use Rattle.gt_model.specs.declared.event.Event.TheVariants.{ListRefs, Cat, Abort}
+use Rattle.gt_model.specs.declared.event.Event.TheVariants.{Abort}
 use Rattle.gt_model.specs.declared.limits.Limits.{Limits}
 use Rattle.gt_model.specs.declared.refusal.Refusal.{Refusal}
 use Rattle.gt_model.specs.declared.refusal.Refusal.TheVariants.{Memory}
@@ -20,7 +20,7 @@ use Rattle.gt_session.specs.Courses.{Turned, Course, refuses, alone, finds, asks
 use Rattle.gt_session.specs.Calls.{Takes, Makes, Answers, Does, GivesUp}
 use Rattle.gt_session.specs.Together.{Requests, GiveUp}
 use Rattle.gt_prog.specs.One.{given_by, LocalDid, Mapped}
-use Rattle.gt_prog.specs.Lines.{Past, past_of, Happened}
+use Rattle.gt_prog.specs.Lines.{past_of, Happened}
 use Rattle.gt_prog.proofs.One.{found_one}
 use Rattle.gt_prog.proofs.Framing.{over, happened_over}
 use Rattle.gt_session.proofs.Mapping.{give_up_map}
@@ -86,9 +86,9 @@ module _ {D : Type 0} (tells : Bool) (view : D → View) (fault_count call_count
       take_went (refuses refusal) turned h = nothing_went history (λ later. Takes (Happened limits) Mapped who s (refuses refusal) turned (past_of (memory old) []) (past_of (memory new) later)) old new h.1 run (h.0, past_unchanged old new h.1)
       take_went (alone answered) turned (inl h) = nothing_went history (λ later. Takes (Happened limits) Mapped who s (alone answered) turned (past_of (memory old) []) (past_of (memory new) later)) old new h.1 run (inl (h.0, past_unchanged old new h.1))
       take_went (alone answered) turned (inr h) = nothing_went history (λ later. Takes (Happened limits) Mapped who s (alone answered) turned (past_of (memory old) []) (past_of (memory new) later)) old new h.1 run (inr (h.0, past_unchanged old new h.1))
-      take_went (finds path e event) turned (inl h) =
-          told_as history _ _ old new (answers_went 1 (event 1) turned (found_one Did who s path e event h.1 turned old h.0 new h.2 h.3)) (λ later is. inl (past_of (memory old) [], Ok (Some 1), (refl, refl), ((omega arith, omega arith), is)))
-      take_went (finds path e event) turned (inr h) = nothing_went history (λ later. Takes (Happened limits) Mapped who s (finds path e event) turned (past_of (memory old) []) (past_of (memory new) later)) old new h.1 run (inr (h.0, past_unchanged old new h.1))
+      take_went (finds path e asked) turned (inl h) =
+          told_as history _ _ old new (answers_went 1 (asked 1) turned (found_one Did who s path e asked h.1 turned old h.0 new h.2 h.3)) (λ later is. inl (past_of (memory old) [], Ok (Some 1), (refl, refl), ((omega arith, omega arith), is)))
+      take_went (finds path e asked) turned (inr h) = nothing_went history (λ later. Takes (Happened limits) Mapped who s (finds path e asked) turned (past_of (memory old) []) (past_of (memory new) later)) old new h.1 run (inr (h.0, past_unchanged old new h.1))
       take_went (asks partition e) turned (inl h) = told_as history _ _ old new (answers_went partition e turned h) (λ later is. inl is)
       take_went (asks partition e) turned (inr h) = nothing_went history (λ later. Takes (Happened limits) Mapped who s (asks partition e) turned (past_of (memory old) []) (past_of (memory new) later)) old new h.1.1 run (inr (h.0, (h.1.0, past_unchanged old new h.1.1)))
       take_went (reads partition e make) turned (inl h) = told_as history _ _ old new (call_went partition who e h.0 None h.1) (λ later is. inl (h.0, is, makes_same make h.0 turned h.2))

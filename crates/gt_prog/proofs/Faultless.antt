@@ -1,5 +1,5 @@
 -- What every call keeps a line keeps, and a session's own answers blame no disk and name no position.
-use Rattle.std.proofs.Common.{◌≡◌, inl, inr, ℕ, ◌≤◌, Bool, true, false, IsTrue, List, [], ◌∷◌, ◌++◌, length, Option, Some, None, Result, Ok, Err, refl, sym, ap, ◌∙◌, subst, arith}
+use Rattle.std.proofs.Common.{◌≡◌, inl, inr, ℕ, ◌≤◌, Bool, true, false, IsTrue, List, [], ◌∷◌, ◌++◌, length, Option, Some, None, Result, Ok, Err, refl, sym, ap, subst, arith}
 use Rattle.gt_name.specs.Paths.{bad_path}
 use Rattle.gt_name.specs.References.{bad_ref}
 use Rattle.gt_object.specs.declared.kind.Kind.{Kind}

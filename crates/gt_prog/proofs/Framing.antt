@@ -1,19 +1,17 @@
 -- What happened before changes nothing of what happens: lines over what was done earlier.
-use Rattle.std.proofs.Common.{◌≡◌, ◌⊎◌, inl, inr, ℕ, List, [], ◌∷◌, ◌++◌, map, Option, Result, Bool, true, ap, subst}
+use Rattle.std.proofs.Common.{◌≡◌, inl, inr, ℕ, List, [], ◌∷◌, ◌++◌, Option, Result, true, ap, subst}
 use Rattle.gt_model.specs.declared.done.Done.{Done}
 use Rattle.gt_model.specs.declared.event.Event.{Event}
 use Rattle.gt_model.specs.declared.limits.Limits.{Limits}
 use Rattle.gt_model.specs.declared.refusal.Refusal.{Refusal}
-use Rattle.gt_model.specs.declared.refusal.Refusal.TheVariants.{Memory}
 use Rattle.gt_model.specs.declared.who.Who.{Who}
-use Rattle.gt_model.specs.Histories.{Happening, event, kept}
-use Rattle.gt_part.specs.Shown.{turn_of}
+use Rattle.gt_model.specs.Histories.{Happening}
 use Rattle.gt_script.specs.declared.form.Form.{Form}
 use Rattle.gt_script.specs.declared.form.Form.TheVariants.{Restart}
 use Rattle.gt_session.specs.Courses.{MapEvent, has_course}
 use Rattle.gt_session.proofs.Mapping.{requests_map, give_up_map}
 use Rattle.gt_prog.specs.One.{Mapped}
-use Rattle.gt_prog.specs.Lines.{Past, Stand, Line, Happened, Restarts, Asked, LineBy, IsLine, AreLines, IsEnd}
+use Rattle.gt_prog.specs.Lines.{Past, Stand, Line, Happened, Restarts, Asked, LineBy, AreLines, IsEnd}
 
 abbrev pub over : List Happening → Past → Past
 over older p = record { state = p.state; happened = p.happened ++ older }

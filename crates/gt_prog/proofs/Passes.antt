@@ -1,5 +1,5 @@
 -- The partition's live transactions, as the passes of sessions.
-use Rattle.std.proofs.Common.{◌≡◌, ◌⊎◌, inl, inr, ℕ, zero, suc, ◌<◌, Bool, true, false, cond, not, ◌||◌, nat_eq, nat_lt, IfSome, List, [], ◌∷◌, ◌++◌, map, length, get_or, Option, Some, None, Result, Ok, Err, refl, sym, ap, ◌∙◌, subst, arith}
+use Rattle.std.proofs.Common.{◌≡◌, inl, inr, ℕ, zero, suc, ◌<◌, Bool, true, false, cond, not, ◌||◌, nat_eq, nat_lt, IfSome, List, [], ◌∷◌, ◌++◌, map, length, get_or, Option, Some, None, Result, Ok, Err, refl, sym, ap, ◌∙◌, subst, arith}
 use Rattle.std.specs.Prelude.{nat_le}
 use Rattle.std.specs.List.{IsAmong}
 use Rattle.std.specs.Option.{option_map}
@@ -7,7 +7,6 @@ use Rattle.std.proofs.lemmas.Bool.Decides.{nat_tests}
 use Rattle.std.proofs.lemmas.List.{map-append}
 use Rattle.gt_model.specs.declared.done.Done.{Done}
 use Rattle.gt_model.specs.declared.done.Done.TheVariants.{Begun}
-use Rattle.gt_model.specs.declared.event.Event.{Event}
 use Rattle.gt_model.specs.declared.event.Event.TheVariants.{Begin}
 use Rattle.gt_model.specs.declared.limits.Limits.{Limits}
 use Rattle.gt_model.specs.declared.refusal.Refusal.{Refusal}
@@ -20,7 +19,7 @@ use Rattle.gt_part.specs.Shown.{Shown, memory}
 use Rattle.gt_pins.proofs.Numbers.{free_number_free}
 use Rattle.gt_session.specs.Courses.{ends}
 use Rattle.gt_session.specs.Calls.{without, with_live, ended, GivesPass}
-use Rattle.gt_prog.specs.One.{in_one, given_by}
+use Rattle.gt_prog.specs.One.{in_one}
 use Rattle.gt_prog.proofs.One.{one_with, one_at, one_held}
 
 abbrev pub numbers : List Pin → List ℕ
@@ -124,14 +123,9 @@ begun_pass limits s path seen a new pass partition first step gives = by a gives
     }
     by (Err refusal) none live = record { none = ap (option_map (λ n. n)) none; live = ap (λ (pins : List Pin). in_one (numbers pins)) live }
 
--- the pass that is due
-pub begun_due : (pins : List Pin) (path : List ℕ) (seen : ℕ) (a : Result Done Refusal) (pass : Option ℕ) → GivesPin a pass (free_number pins) → option_map (λ n. n) pass ≡ given_by pins (Begin path seen) a
-begun_due pins path seen (Ok d) pass given = ap (option_map (λ n. n)) given
-begun_due pins path seen (Err refusal) pass none = ap (option_map (λ n. n)) none
-
 -- ---- one that ends
 
-pub gone_live : (partition n : ℕ) (old new : List Pin) → partition ≡ 1 → new ≡ released old n → in_one (numbers new) ≡ ended (in_one (numbers old)) partition n
+gone_live : (partition n : ℕ) (old new : List Pin) → partition ≡ 1 → new ≡ released old n → in_one (numbers new) ≡ ended (in_one (numbers old)) partition n
 gone_live partition n old new first same =
     let here : numbers new ≡ without (in_one (numbers old) partition) n = gone_numbers old new n same ∙ ap (λ (l : List ℕ). without l n) (sym (one_at (numbers old) partition first)) in
     one_with (numbers old) (numbers new) partition first ∙ ap (with_live (in_one (numbers old)) partition) here
@@ -166,13 +160,6 @@ module _ (a : Result Done Refusal) (partition : ℕ) (before pass : Option ℕ) 
       at None h = absurd h
       at (Some n) h = (h.0, gone_live partition n old new first h.1)
 
-  pub pass_stays : ends a ≡ false → (option_map (λ n. n) pass ≡ option_map (λ n. n) before) × (in_one (numbers new) ≡ in_one (numbers old))
-  pass_stays is = at before (splits false (ends_same a ∙ is))
-    where
-      at : (o : Option ℕ) → Splits false o → (option_map (λ n. n) pass ≡ option_map (λ n. n) o) × (in_one (numbers new) ≡ in_one (numbers old))
-      at None h = absurd h
-      at (Some n) h = (ap (option_map (λ n. n)) h.0, ap (λ (pins : List Pin). in_one (numbers pins)) h.1)
-
 -- ---- the partition inside, which is seen as this one
 
 -- what is held is in the one partition
@@ -202,6 +189,3 @@ module _ {D : Type 0} (inside seen : Shown D) (is : inside ≡ seen) (partition 
   module _ (a : Result Done Refusal) (before pass : Option ℕ) (new : List Pin) (first : partition ≡ 1) (by_part : IfSome before (λ n. EndsBy a n pass inside.live new)) (some : before ≡ None → ⊥) where
     pub ended_seen : ends a ≡ true → (pass ≡ None) × IfSome before (λ n. in_one (numbers new) ≡ ended (in_one (numbers seen.live)) partition n)
     ended_seen e = pass_ended a partition before pass seen.live new first (subst (λ (p : Shown D). IfSome before (λ n. EndsBy a n pass p.live new)) is by_part) some e
-
-    pub stays_seen : ends a ≡ false → (option_map (λ n. n) pass ≡ option_map (λ n. n) before) × (in_one (numbers new) ≡ in_one (numbers seen.live))
-    stays_seen e = pass_stays a partition before pass seen.live new first (subst (λ (p : Shown D). IfSome before (λ n. EndsBy a n pass p.live new)) is by_part) some e
