@@ -1,16 +1,14 @@
 -- The positions that lines were answered are in the log that they have come to.
-use Rattle.std.proofs.Common.{◌≡◌, inl, inr, ⊎_elim, ℕ, ◌≤◌, List, [], ◌∷◌, ◌++◌, length, Result, Ok, Err, refl, sym, ap, ◌∙◌, subst, arith, length-append}
+use Rattle.std.proofs.Common.{◌≡◌, inl, inr, ℕ, ◌≤◌, List, [], ◌∷◌, Option, Result, Ok, refl, sym, ap, subst, arith}
 use Rattle.std.specs.List.{AllByRecursion}
-use Rattle.gt_disk.specs.Files.{Files, View, now, IsImage}
+use Rattle.gt_disk.specs.Files.{Files, View, now}
 use Rattle.gt_model.specs.declared.done.Done.{Done}
-use Rattle.gt_model.specs.declared.done.Done.TheVariants.{Restarted}
-use Rattle.gt_model.specs.declared.entry.Entry.{Entry}
 use Rattle.gt_model.specs.declared.event.Event.{Event}
 use Rattle.gt_model.specs.declared.limits.Limits.{Limits}
 use Rattle.gt_model.specs.declared.refusal.Refusal.{Refusal}
 use Rattle.gt_model.specs.declared.who.Who.{Who}
-use Rattle.gt_model.specs.Histories.{state, position, last_state}
-use Rattle.gt_model.specs.Machine.{State, Recovered, Step, IsInOrder, MayRecover, opening, front}
+use Rattle.gt_model.specs.Histories.{position, last_state}
+use Rattle.gt_model.specs.Machine.{State, Recovered, IsInOrder, opening, front}
 use Rattle.gt_model.proofs.Steps.{step_grows, step_acked, grown_longer}
 use Rattle.gt_model.proofs.Openings.{opening_order, opening_part}
 use Rattle.gt_history.proofs.Parts.{recovered_long}
@@ -18,8 +16,7 @@ use Rattle.gt_base.specs.Histories.{Gives, Holds}
 use Rattle.gt_base.specs.Recovery.{recover}
 use Rattle.gt_script.specs.declared.form.Form.{Form}
 use Rattle.gt_script.specs.declared.form.Form.TheVariants.{Restart}
-use Rattle.gt_session.specs.Sessions.{Session}
-use Rattle.gt_prog.specs.Lines.{Line, Past, Stand, Happened, Restarts, Asked, LineBy, IsLine, AreLines, IsEnd}
+use Rattle.gt_prog.specs.Lines.{Line, Past, Stand, Happened, Restarts, LineBy, AreLines, IsEnd}
 use Rattle.gt_prog.specs.Replay.{KeepsAnswers}
 use Rattle.gt_prog.proofs.Faultless.{requests_keeps, requests_names, give_up_keeps}
 
@@ -36,14 +33,14 @@ module _ (limits : Limits) (start : State) where
   same_past : (p q : Past) → q ≡ p → GoesOn start p q
   same_past p q same is = subst (λ (x : Past). IsPast start x × (front p.state ≤ front x.state)) (sym same) (is, omega arith)
 
-  happened_on : (who : Who) (e : Event) (a : Result Done Refusal) (p q : Past) → Happened limits who e a p q → GoesOn start p q
-  happened_on who e a p q (step, inl told) is =
+  happened_on : (partition : ℕ) (who : Who) (e : Event) (a : Result Done Refusal) (given : Option ℕ) (p q : Past) → Happened limits partition who e a given p q → GoesOn start p q
+  happened_on partition who e a given p q (here, gives, step, inl told) is =
       let g = step_grows limits p.state e a q.state is.order step in
       (record { leads = ap (last_state start) told.1; order = g.order }, grown_longer p.state q.state g)
-  happened_on who e a p q (step, inr none) is = same_past p q none.1 is
+  happened_on partition who e a given p q (here, gives, step, inr none) is = same_past p q none.1 is
 
-  happened_names : (who : Who) (e : Event) (a : Result Done Refusal) (p q : Past) → Happened limits who e a p q → IsPast start p → position a ≤ front q.state
-  happened_names who e a p q h is = step_acked limits p.state e a q.state is.order h.0
+  happened_names : (partition : ℕ) (who : Who) (e : Event) (a : Result Done Refusal) (given : Option ℕ) (p q : Past) → Happened limits partition who e a given p q → IsPast start p → position a ≤ front q.state
+  happened_names partition who e a given p q h is = step_acked limits p.state e a q.state is.order h.2
 
   -- ---- one line
 
@@ -54,12 +51,12 @@ module _ (limits : Limits) (start : State) where
 
   line_on : (form : Form) (l : Line) (old new : Stand) → LineBy limits form l old new → GoesOn start old.past new.past
   line_on Restart l old new h = restarts_on l old new h
-  line_on form l old new h = requests_keeps (Happened limits) old.past new.past (GoesOn start old.past new.past) (same_past old.past new.past) (λ who e a. happened_on who e a old.past new.past) _ l.number l.request.session l.request.form l.answer old.sessions new.sessions h
+  line_on form l old new h = requests_keeps (Happened limits) old.past new.past (GoesOn start old.past new.past) (same_past old.past new.past) (λ partition who e a given. happened_on partition who e a given old.past new.past) l.number l.request.session l.request.form l.answer old.sessions new.sessions h
 
   line_names : (form : Form) (l : Line) (old new : Stand) → LineBy limits form l old new → IsPast start old.past → position l.answer ≤ front new.past.state
   line_names Restart l old new h is = let none : position l.answer ≡ 0 = ap position h.answer in omega (arith, none)
   line_names form l old new h is =
-      requests_names (Happened limits) old.past new.past (front new.past.state) (λ who e a happened. happened_names who e a old.past new.past happened is) _ l.number l.request.session l.request.form l.answer old.sessions new.sessions h
+      requests_names (Happened limits) old.past new.past (front new.past.state) (λ partition who e a given happened. happened_names partition who e a given old.past new.past happened is) l.number l.request.session l.request.form l.answer old.sessions new.sessions h
 
   -- ---- all lines
 
@@ -79,7 +76,7 @@ module _ (limits : Limits) (start : State) where
 
   pub end_named : (stand : Stand) (end : Past) → IsEnd limits stand end → GoesOn start stand.past end
   end_named stand end h = give_up_keeps (Happened limits) (GoesOn start) (λ p. same_past p p refl)
-      (λ p q r first then is. let a = first is in let b = then a.0 in (b.0, omega (arith, a.1, b.1))) (λ who e a p q. happened_on who e a p q) stand.sessions stand.past end h
+      (λ p q r first then is. let a = first is in let b = then a.0 in (b.0, omega (arith, a.1, b.1))) happened_on stand.sessions stand.past end h
 
   -- ---- on the disk
 

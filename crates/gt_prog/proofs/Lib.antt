@@ -1,3 +1,4 @@
+pub mod One
 pub mod Acknowledged
 pub mod ScriptSteps
 pub mod SessionNumbers

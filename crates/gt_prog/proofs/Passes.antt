@@ -1,5 +1,5 @@
 -- The partition's live transactions, as the passes of sessions.
-use Rattle.std.proofs.Common.{◌≡◌, ◌⊎◌, inl, inr, ℕ, zero, suc, ◌<◌, Bool, true, false, cond, not, ◌||◌, nat_eq, nat_lt, IfSome, List, [], ◌∷◌, ◌++◌, map, length, get_or, Option, Some, None, Result, Ok, Err, refl, sym, ap, ◌∙◌, subst, arith}
+use Rattle.std.proofs.Common.{◌≡◌, inl, inr, ℕ, zero, suc, ◌<◌, Bool, true, false, cond, not, ◌||◌, nat_eq, nat_lt, IfSome, List, [], ◌∷◌, ◌++◌, map, length, get_or, Option, Some, None, Result, Ok, Err, refl, sym, ap, ◌∙◌, subst, arith}
 use Rattle.std.specs.Prelude.{nat_le}
 use Rattle.std.specs.List.{IsAmong}
 use Rattle.std.specs.Option.{option_map}
@@ -7,7 +7,6 @@ use Rattle.std.proofs.lemmas.Bool.Decides.{nat_tests}
 use Rattle.std.proofs.lemmas.List.{map-append}
 use Rattle.gt_model.specs.declared.done.Done.{Done}
 use Rattle.gt_model.specs.declared.done.Done.TheVariants.{Begun}
-use Rattle.gt_model.specs.declared.event.Event.{Event}
 use Rattle.gt_model.specs.declared.event.Event.TheVariants.{Begin}
 use Rattle.gt_model.specs.declared.limits.Limits.{Limits}
 use Rattle.gt_model.specs.declared.refusal.Refusal.{Refusal}
@@ -19,7 +18,9 @@ use Rattle.gt_act.specs.Live.{GivesPin, EndsBy}
 use Rattle.gt_part.specs.Shown.{Shown, memory}
 use Rattle.gt_pins.proofs.Numbers.{free_number_free}
 use Rattle.gt_session.specs.Courses.{ends}
-use Rattle.gt_session.specs.Calls.{without, Gives, GivesPass}
+use Rattle.gt_session.specs.Calls.{without, with_live, ended, GivesPass}
+use Rattle.gt_prog.specs.One.{in_one}
+use Rattle.gt_prog.proofs.One.{one_with, one_at, one_held}
 
 abbrev pub numbers : List Pin → List ℕ
 numbers pins = map (λ p. p.number) pins
@@ -103,13 +104,31 @@ begins limits s path seen a new (asked, inr (inl (said, inl (doubt, same)))) = s
 begins limits s path seen a new (asked, inr (inl (said, inr (never, one)))) = absurd (cc never)
 begins limits s path seen a new (asked, inr (inr (said, same))) = subst (λ (x : Result Done Refusal). Begins s.pins x new.pins) (sym said) (ap (λ (t : State). t.pins) same)
 
-pub begun_pass : (limits : Limits) (s : State) (path : List ℕ) (seen : ℕ) (a : Result Done Refusal) (new : State) (pass : Option ℕ) → Step limits s (Begin path seen) a new → GivesPin a pass (free_number s.pins)
-    → GivesPass a (option_map (λ n. n) pass) (free_number s.pins) (numbers s.pins) (numbers new.pins)
-begun_pass limits s path seen a new pass step gives = by a gives (begins limits s path seen a new step)
+-- the one partition has one more that is live
+begun_live : (partition number : ℕ) (old new : List Pin) → partition ≡ 1 → numbers new ≡ numbers old ++ number ∷ [] → in_one (numbers new) ≡ with_live (in_one (numbers old)) partition (in_one (numbers old) partition ++ number ∷ [])
+begun_live partition number old new first live =
+    let here : numbers new ≡ in_one (numbers old) partition ++ number ∷ [] = live ∙ ap (λ (l : List ℕ). l ++ number ∷ []) (sym (one_at (numbers old) partition first)) in
+    one_with (numbers old) (numbers new) partition first ∙ ap (with_live (in_one (numbers old)) partition) here
+
+pub begun_pass : (limits : Limits) (s : State) (path : List ℕ) (seen : ℕ) (a : Result Done Refusal) (new : State) (pass : Option ℕ) (partition : ℕ) → partition ≡ 1 → Step limits s (Begin path seen) a new → GivesPin a pass (free_number s.pins)
+    → GivesPass a (option_map (λ n. n) pass) partition (in_one (numbers s.pins)) (in_one (numbers new.pins))
+begun_pass limits s path seen a new pass partition first step gives = by a gives (begins limits s path seen a new step)
   where
-    by : (x : Result Done Refusal) → GivesPin x pass (free_number s.pins) → Begins s.pins x new.pins → GivesPass x (option_map (λ n. n) pass) (free_number s.pins) (numbers s.pins) (numbers new.pins)
-    by (Ok d) given live = record { given = ap (option_map (λ n. n)) given; free = is_free s.pins; live = live }
-    by (Err refusal) none live = record { none = ap (option_map (λ n. n)) none; live = ap numbers live }
+    by : (x : Result Done Refusal) → GivesPin x pass (free_number s.pins) → Begins s.pins x new.pins → GivesPass x (option_map (λ n. n) pass) partition (in_one (numbers s.pins)) (in_one (numbers new.pins))
+    by (Ok d) given live = record {
+      number = free_number s.pins;
+      given = ap (option_map (λ n. n)) given;
+      free = λ among. is_free s.pins (one_held (numbers s.pins) partition (free_number s.pins) among).1;
+      live = begun_live partition (free_number s.pins) s.pins new.pins first live;
+    }
+    by (Err refusal) none live = record { none = ap (option_map (λ n. n)) none; live = ap (λ (pins : List Pin). in_one (numbers pins)) live }
+
+-- ---- one that ends
+
+gone_live : (partition n : ℕ) (old new : List Pin) → partition ≡ 1 → new ≡ released old n → in_one (numbers new) ≡ ended (in_one (numbers old)) partition n
+gone_live partition n old new first same =
+    let here : numbers new ≡ without (in_one (numbers old) partition) n = gone_numbers old new n same ∙ ap (λ (l : List ℕ). without l n) (sym (one_at (numbers old) partition first)) in
+    one_with (numbers old) (numbers new) partition first ∙ ap (with_live (in_one (numbers old)) partition) here
 
 -- ---- a commit
 
@@ -122,7 +141,7 @@ ends_same (Err (MissingObject name needer)) = refl
 ends_same (Err (Unsure position)) = refl
 ends_same (Err refusal) = refl
 
-module _ (a : Result Done Refusal) (before pass : Option ℕ) (old new : List Pin) (by_part : IfSome before (λ n. EndsBy a n pass old new)) (some : before ≡ None → ⊥) where
+module _ (a : Result Done Refusal) (partition : ℕ) (before pass : Option ℕ) (old new : List Pin) (first : partition ≡ 1) (by_part : IfSome before (λ n. EndsBy a n pass old new)) (some : before ≡ None → ⊥) where
   abbrev Splits : Bool → Option ℕ → Type 0
   Splits b (Some n) = part.Ended b n pass old new
   Splits b None = ⊥
@@ -134,41 +153,39 @@ module _ (a : Result Done Refusal) (before pass : Option ℕ) (old new : List Pi
       at None h none = none refl
       at (Some n) h none = subst (λ (x : Bool). part.Ended x n pass old new) is h
 
-  pub pass_ended : ends a ≡ true → (pass ≡ None) × IfSome before (λ n. numbers new ≡ without (numbers old) n)
+  pub pass_ended : ends a ≡ true → (pass ≡ None) × IfSome before (λ n. in_one (numbers new) ≡ ended (in_one (numbers old)) partition n)
   pass_ended is = at before (splits true (ends_same a ∙ is))
     where
-      at : (o : Option ℕ) → Splits true o → (pass ≡ None) × IfSome o (λ n. numbers new ≡ without (numbers old) n)
+      at : (o : Option ℕ) → Splits true o → (pass ≡ None) × IfSome o (λ n. in_one (numbers new) ≡ ended (in_one (numbers old)) partition n)
       at None h = absurd h
-      at (Some n) h = (h.0, gone_numbers old new n h.1)
-
-  pub pass_stays : ends a ≡ false → (pass ≡ before) × (numbers new ≡ numbers old)
-  pass_stays is = at before (splits false (ends_same a ∙ is))
-    where
-      at : (o : Option ℕ) → Splits false o → (pass ≡ o) × (numbers new ≡ numbers old)
-      at None h = absurd h
-      at (Some n) h = (h.0, ap numbers h.1)
+      at (Some n) h = (h.0, gone_live partition n old new first h.1)
 
 -- ---- the partition inside, which is seen as this one
 
-module _ {D : Type 0} (inside seen : Shown D) (is : inside ≡ seen) where
-  pub held_live : (n : ℕ) → IsAmong (numbers seen.live) n → is_live inside.live n ≡ true
-  held_live n among = among_live inside.live n (subst (λ (p : Shown D). IsAmong (numbers p.live) n) (sym is) among)
+-- what is held is in the one partition
+pub held_first : (partition n : ℕ) (pins : List Pin) → IsAmong (in_one (numbers pins) partition) n → partition ≡ 1
+held_first partition n pins among = (one_held (numbers pins) partition n among).0
 
-  pub held_some : (pass : Option ℕ) → IfSome pass (λ n. IsAmong (numbers seen.live) n) → IfSome pass (λ n. is_live inside.live n ≡ true)
+pub some_first : (partition : ℕ) (pass : Option ℕ) (pins : List Pin) → IfSome pass (λ n. IsAmong (in_one (numbers pins) partition) n) → (pass ≡ None → ⊥) → partition ≡ 1
+some_first partition None pins h some = absurd (some refl)
+some_first partition (Some n) pins h some = held_first partition n pins h
+
+module _ {D : Type 0} (inside seen : Shown D) (is : inside ≡ seen) (partition : ℕ) where
+  pub held_live : (n : ℕ) → IsAmong (in_one (numbers seen.live) partition) n → is_live inside.live n ≡ true
+  held_live n among = among_live inside.live n (subst (λ (p : Shown D). IsAmong (numbers p.live) n) (sym is) (one_held (numbers seen.live) partition n among).1)
+
+  pub held_some : (pass : Option ℕ) → IfSome pass (λ n. IsAmong (in_one (numbers seen.live) partition) n) → IfSome pass (λ n. is_live inside.live n ≡ true)
   held_some None h = tt
   held_some (Some n) h = held_live n h
 
-  pub gone_seen : (new : List Pin) (n : ℕ) → new ≡ released inside.live n → numbers new ≡ without (numbers seen.live) n
-  gone_seen new n same = gone_numbers seen.live new n (subst (λ (p : Shown D). new ≡ released p.live n) is same)
+  pub gone_seen : (new : List Pin) (n : ℕ) → partition ≡ 1 → new ≡ released inside.live n → in_one (numbers new) ≡ ended (in_one (numbers seen.live)) partition n
+  gone_seen new n first same = gone_live partition n seen.live new first (subst (λ (p : Shown D). new ≡ released p.live n) is same)
 
-  pub begun_seen : (limits : Limits) (path : List ℕ) (seen_position : ℕ) (a : Result Done Refusal) (new : State) (pass : Option ℕ) → Step limits (memory inside) (Begin path seen_position) a new → GivesPin a pass (free_number inside.live)
-      → GivesPass a (option_map (λ n. n) pass) (free_number seen.live) (numbers seen.live) (numbers new.pins)
-  begun_seen limits path seen_position a new pass step gives =
-      subst (λ (p : Shown D). GivesPass a (option_map (λ n. n) pass) (free_number p.live) (numbers p.live) (numbers new.pins)) is (begun_pass limits (memory inside) path seen_position a new pass step gives)
+  pub begun_seen : (limits : Limits) (path : List ℕ) (seen_position : ℕ) (a : Result Done Refusal) (new : State) (pass : Option ℕ) → partition ≡ 1 → Step limits (memory inside) (Begin path seen_position) a new → GivesPin a pass (free_number inside.live)
+      → GivesPass a (option_map (λ n. n) pass) partition (in_one (numbers seen.live)) (in_one (numbers new.pins))
+  begun_seen limits path seen_position a new pass first step gives =
+      subst (λ (p : Shown D). GivesPass a (option_map (λ n. n) pass) partition (in_one (numbers p.live)) (in_one (numbers new.pins))) is (begun_pass limits (memory inside) path seen_position a new pass partition first step gives)
 
-  module _ (a : Result Done Refusal) (before pass : Option ℕ) (new : List Pin) (by_part : IfSome before (λ n. EndsBy a n pass inside.live new)) (some : before ≡ None → ⊥) where
-    pub ended_seen : ends a ≡ true → (pass ≡ None) × IfSome before (λ n. numbers new ≡ without (numbers seen.live) n)
-    ended_seen e = pass_ended a before pass seen.live new (subst (λ (p : Shown D). IfSome before (λ n. EndsBy a n pass p.live new)) is by_part) some e
-
-    pub stays_seen : ends a ≡ false → (pass ≡ before) × (numbers new ≡ numbers seen.live)
-    stays_seen e = pass_stays a before pass seen.live new (subst (λ (p : Shown D). IfSome before (λ n. EndsBy a n pass p.live new)) is by_part) some e
+  module _ (a : Result Done Refusal) (before pass : Option ℕ) (new : List Pin) (first : partition ≡ 1) (by_part : IfSome before (λ n. EndsBy a n pass inside.live new)) (some : before ≡ None → ⊥) where
+    pub ended_seen : ends a ≡ true → (pass ≡ None) × IfSome before (λ n. in_one (numbers new) ≡ ended (in_one (numbers seen.live)) partition n)
+    ended_seen e = pass_ended a partition before pass seen.live new first (subst (λ (p : Shown D). IfSome before (λ n. EndsBy a n pass p.live new)) is by_part) some e

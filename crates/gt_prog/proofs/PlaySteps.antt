@@ -11,10 +11,9 @@ use Rattle.gt_model.specs.declared.done.Done.{Done}
 use Rattle.gt_model.specs.declared.done.Done.TheVariants.{Restarted}
 use Rattle.gt_model.specs.declared.limits.Limits.{Limits}
 use Rattle.gt_model.specs.declared.refusal.Refusal.{Refusal}
-use Rattle.gt_model.specs.Machine.{State, Recovered, Settles, opening, front, free_number, is_faulty}
+use Rattle.gt_model.specs.Machine.{State, Recovered, Settles, opening, front, is_faulty}
 use Rattle.gt_model.specs.Histories.{Happening, last_state}
 use Rattle.gt_outside.specs.Written.{AppendsAll, AppendsFront}
-use Rattle.gt_part.specs.Called.{Called}
 use Rattle.gt_base.specs.Recovery.{recover}
 use Rattle.gt_base.specs.Histories.{IsGood}
 use Rattle.gt_base.specs.Histories.{Holds}
@@ -30,6 +29,7 @@ use Rattle.gt_script.specs.Printed.{printed as printed_answer}
 use Rattle.gt_session.specs.Sessions.{Session, forgotten}
 use Rattle.gt_session.specs.Courses.{has_course}
 use Rattle.gt_session.specs.Together.{Requests, GiveUp}
+use Rattle.gt_prog.specs.One.{LocalDid, Mapped}
 use Rattle.gt_prog.specs.Lines.{Line, Past, Stand, past_of, standing, from_here, new_sessions, printed, numbered, asked_by, Counted, Happened, Restarts, Asked, LineBy, IsLine, AreLines, IsEnd}
 use Rattle.gt_prog.specs.declared.playing.PlayCause.{PlayCause}
 use Rattle.gt_prog.specs.declared.playing.PlayCause.TheVariants.{Write, Device, Damaged, Memory}
@@ -116,10 +116,10 @@ module _ {D : Type 0} (tells : Bool) (view : D → View) (limits : Limits) where
 
   -- a session asks
   pub goes_asked : (fault_count call_count : D → ℕ) (line : Line) (first last : List Session) (o p : Shown D) → o.limits ≡ limits → has_course line.request.form ≡ true
-      → Requests (Called tells view fault_count call_count) (free_number o.live) line.number line.request.session line.request.form line.answer first last o p → Goes tells view limits (line ∷ []) first last o p
+      → Requests (LocalDid tells view fault_count call_count) Mapped line.number line.request.session line.request.form line.answer first last o p → Goes tells view limits (line ∷ []) first last o p
   goes_asked fault_count call_count line first last o p kept course h told start begin history run =
       told_as tells view fault_count call_count limits told start begin history (λ later. Asked limits line (from_here first (memory o)) (standing last (past_of (memory p) later))) (λ later. AreLines limits (line ∷ []) (from_here first (memory o)) (standing last (past_of (memory p) later))) o p
-      (requests_went tells view fault_count call_count limits told start begin history o p kept run (free_number o.live) line.number line.request.session line.request.form line.answer first last h)
+      (requests_went tells view fault_count call_count limits told start begin history o p kept run line.number line.request.session line.request.form line.answer first last h)
       (λ later is. line_more limits line (from_here first (memory o)) (standing last (past_of (memory p) later)) (course_line limits line.request.form line (from_here first (memory o)) (standing last (past_of (memory p) later)) course is))
 
   -- everything is mounted again
@@ -266,7 +266,7 @@ module _ {D : Type 0} (tells : Bool) (view : D → View) (fault_count : D → �
   }
 
   -- each session gave up what it had open, at the end of the input
-  pub played_whole : (call_count : D → ℕ) (ss : List Session) (o p q : Shown D) (requests : List Request) (w v : Option (List ℕ)) → Played tells view fault_count requests ss o p w v → GiveUp (Called tells view fault_count call_count) ss p q → fault_count p.disk ≤ fault_count q.disk → PlayedWhole tells view fault_count requests o q w v
+  pub played_whole : (call_count : D → ℕ) (ss : List Session) (o p q : Shown D) (requests : List Request) (w v : Option (List ℕ)) → Played tells view fault_count requests ss o p w v → GiveUp (LocalDid tells view fault_count call_count) ss p q → fault_count p.disk ≤ fault_count q.disk → PlayedWhole tells view fault_count requests o q w v
   played_whole call_count ss o p q requests w v played ends later = record {
     lines = played.lines;
     asked = played.asked;

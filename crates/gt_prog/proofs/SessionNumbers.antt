@@ -1,5 +1,5 @@
 -- Each line of the language names a session from 1 to 128.
-use Rattle.std.proofs.Common.{◌≡◌, ℕ, zero, suc, ◌+◌, ◌<◌, ◌≤◌, Bool, true, false, cond, List, [], ◌∷◌, ◌++◌, length, take, Option, Some, None, Result, Ok, Err, refl, ap, ◌∙◌, subst, arith, nat_eq, ◌-◌}
+use Rattle.std.proofs.Common.{◌≡◌, ℕ, zero, suc, ◌+◌, ◌≤◌, Bool, true, false, cond, List, [], ◌∷◌, length, take, Option, Some, None, Result, Ok, Err, refl, ap, ◌∙◌, subst, arith, nat_eq, ◌-◌}
 use Rattle.std.specs.Prelude.{codes}
 use Rattle.std.specs.List.{All, ends_with}
 use Rattle.gt_script.specs.declared.form.Form.{Form}

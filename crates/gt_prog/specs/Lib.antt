@@ -1,3 +1,4 @@
+pub mod One
 pub mod Lines
 pub mod Parses
 pub mod Played

@@ -1,5 +1,5 @@
 -- The lines of a script with their answers, and what they make of the sessions and of the partition.
-use Rattle.std.specs.Prelude.{◌≡◌, ◌⊎◌, ℕ, ◌+◌, ◌-◌, ◌^◌, ◌≤◌, if◌then◌else◌, List, [], ◌∷◌, map, Result, Ok, Err}
+use Rattle.std.specs.Prelude.{◌≡◌, ◌⊎◌, ℕ, ◌+◌, ◌-◌, ◌^◌, ◌≤◌, if◌then◌else◌, List, [], ◌∷◌, map, Option, Result, Ok, Err}
 use Rattle.gt_model.specs.declared.done.Done.{Done}
 use Rattle.gt_model.specs.declared.done.Done.TheVariants.{Restarted}
 use Rattle.gt_model.specs.declared.event.Event.{Event}
@@ -8,7 +8,7 @@ use Rattle.gt_model.specs.declared.refusal.Refusal.{Refusal}
 use Rattle.gt_model.specs.declared.refusal.Refusal.TheVariants.{Memory}
 use Rattle.gt_model.specs.declared.who.Who.{Who}
 use Rattle.gt_model.specs.Histories.{Happening, event, opened, kept}
-use Rattle.gt_model.specs.Machine.{State, Step, Settles, free_number, is_faulty}
+use Rattle.gt_model.specs.Machine.{State, Step, Settles, is_faulty}
 use Rattle.gt_part.specs.Shown.{turn_of}
 use Rattle.gt_script.specs.Printed.{printed as printed_answer}
 use Rattle.gt_script.specs.declared.form.Form.{Form}
@@ -16,6 +16,7 @@ use Rattle.gt_script.specs.declared.form.Form.TheVariants.{Restart}
 use Rattle.gt_script.specs.declared.request.Request.{Request}
 use Rattle.gt_session.specs.Sessions.{Session, forgotten}
 use Rattle.gt_session.specs.Together.{sessions_from, Requests, GiveUp}
+use Rattle.gt_prog.specs.One.{given_by, Mapped}
 
 -- ---- where a run stands
 
@@ -73,10 +74,12 @@ faulty (line ∷ lines) = (if is_faulty line.answer then 1 else 0) + faulty line
 abbrev pub Counted : ℕ → ℕ → ℕ → List Line → Type 0
 Counted besides before now lines = (before + faulty lines + besides ≤ now) ⊎ (2 ^ 64 - 1 ≤ now)
 
--- The machine makes a step with this answer, and the event has happened. Of a want of memory there may be no record, and then nothing has changed.
-abbrev pub Happened : Limits → Who → Event → Result Done Refusal → Past → Past → Type 0
-Happened limits who e answer old new =
-    Step limits old.state e answer new.state
+-- The machine of the one partition makes a step with this answer, which gives the pass that is due, and the event has happened. Of a want of memory there may be no record, and then nothing has changed.
+abbrev pub Happened : Limits → ℕ → Who → Event → Result Done Refusal → Option ℕ → Past → Past → Type 0
+Happened limits partition who e answer given old new =
+    (partition ≡ 1)
+    × (given ≡ given_by old.state.pins e answer)
+    × Step limits old.state e answer new.state
     × (((tick : ℕ) × (new.happened ≡ event (turn_of who e (kept old.state e answer) tick) new.state ∷ old.happened)) ⊎ ((answer ≡ Err Memory) × (new ≡ old)))
 
 -- Everything was mounted again: what was in doubt is settled, nothing is open any more, and sessions keep what they have seen.
@@ -89,7 +92,7 @@ pub record Restarts (line : Line) (old new : Stand) : Type 0 where
 
 -- The session of the line took the course of what was asked, and no other session changed.
 abbrev pub Asked : Limits → Line → Stand → Stand → Type 0
-Asked limits line old new = Requests (Happened limits) (free_number old.past.state.pins) line.number line.request.session line.request.form line.answer old.sessions new.sessions old.past new.past
+Asked limits line old new = Requests (Happened limits) Mapped line.number line.request.session line.request.form line.answer old.sessions new.sessions old.past new.past
 
 abbrev pub LineBy : Limits → Form → Line → Stand → Stand → Type 0
 LineBy limits Restart line old new = Restarts line old new

@@ -10,6 +10,7 @@ ghost use Rattle.gt_part.specs.Mounts.{HasMountCause};
 ghost use Rattle.gt_base.specs.Recovery.{recover};
 ghost use Rattle.gt_history.specs.Runs.{KeepsPast};
 ghost use Rattle.gt_part.specs.Shown.{HasRun};
+ghost use Rattle.gt_prog.specs.One.{in_one};
 ghost use Rattle.gt_prog.specs.Played.{DidOne};
 ghost use Rattle.gt_prog.specs.Script.{HasSession, is_built};
 ghost use Rattle.gt_script.specs.declared.form.Form.TheVariants.{Restart};
@@ -20,6 +21,7 @@ use crate::local::Local;
 use gt_disk::Disk;
 use gt_log::MountError;
 use gt_model::{Answer, Done};
+use gt_pins::Pin;
 use gt_script::{Form, Request};
 use gt_session::{Sessions, forgotten_sessions_hold_nothing};
 use std::alloc::Global;
@@ -28,15 +30,15 @@ use std::alloc::Global;
 pub(crate) fn play_one<D: Disk + Drop>(
     alloc: Global,
     local: Local<D>,
-    sessions: &mut Sessions<Local<D>>,
+    sessions: &mut Sessions<Pin>,
     line: u32,
     request: &Request,
 ) -> Result<(Local<D>, Answer), MountError<D>>
     requires built { is_built request.now.form ≡ true }
     requires session { HasSession request.now }
-    requires held { AreHeld sessions.old (map (λ p. p.number) local.live) }
+    requires held { AreHeld sessions.old (in_one (map (λ p. p.number) local.live)) }
     ensures did { IfOk result (λ r. DidOne D.tells D.view local.limits line request.now r.1 sessions.old sessions.new local r.0) }
-    ensures held { IfOk result (λ r. AreHeld sessions.new (map (λ p. p.number) r.0.live)) }
+    ensures held { IfOk result (λ r. AreHeld sessions.new (in_one (map (λ p. p.number) r.0.live))) }
     ensures limits { IfOk result (λ r. r.0.limits ≡ local.limits) }
     ensures fault { IfOk result (λ r. IsTrue (is_faulty r.1) → Rose (D.fault_count local.disk) (D.fault_count r.0.disk)) }
     ensures later { IfOk result (λ r. D.fault_count local.disk ≤ D.fault_count r.0.disk) }
@@ -68,15 +70,15 @@ pub(crate) fn play_one<D: Disk + Drop>(
 fn ask<D: Disk + Drop>(
     alloc: Global,
     local: &mut Local<D>,
-    sessions: &mut Sessions<Local<D>>,
+    sessions: &mut Sessions<Pin>,
     line: u32,
     request: &Request,
 ) -> Answer
     requires course { has_course request.now.form ≡ true }
     requires session { HasSession request.now }
-    requires held { AreHeld sessions.old (map (λ p. p.number) local.old.live) }
+    requires held { AreHeld sessions.old (in_one (map (λ p. p.number) local.old.live)) }
     ensures did { DidOne D.tells D.view local.old.limits line request.now result sessions.old sessions.new local.old local.new }
-    ensures held { AreHeld sessions.new (map (λ p. p.number) local.new.live) }
+    ensures held { AreHeld sessions.new (in_one (map (λ p. p.number) local.new.live)) }
     ensures limits { local.new.limits ≡ local.old.limits }
     ensures fault { IsTrue (is_faulty result) → Rose (D.fault_count local.old.disk) (D.fault_count local.new.disk) }
     ensures later { D.fault_count local.old.disk ≤ D.fault_count local.new.disk }

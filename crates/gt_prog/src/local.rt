@@ -1,7 +1,7 @@
 ghost use Rattle.std.specs.Prelude.{◌≡◌};
 
 use gt_disk::Disk;
-use gt_model::{Answer, Who};
+use gt_model::{Answer, Refusal, Who};
 use gt_name::{Name, RefName, RepoPath};
 use gt_part::Partition;
 use gt_pins::Pin;
@@ -27,29 +27,50 @@ impl<D: Disk + Drop> Model for Local<D> {
 impl<D: Disk + Drop> Parts for Local<D> {
     type Pass = Pin;
 
-    ghost use Rattle.std.specs.Prelude.{map};
-    ghost use Rattle.gt_model.specs.Machine.{free_number};
-    ghost use Rattle.gt_part.specs.Called.{Called};
+    ghost use Rattle.std.specs.Prelude.{Some, map};
+    ghost use Rattle.gt_prog.specs.One.{in_one, LocalDid, Mapped};
 
-    ghost number = { λ pin. pin };
+    ghost live = { λ local. in_one (map (λ p. p.number) local.live) };
 
-    ghost live = { λ local. map (λ p. p.number) local.live };
+    ghost home = { λ local path. Some 1 };
 
-    ghost next = { λ local. free_number local.live };
+    ghost did = { λ partition who event answer given old new. LocalDid D.tells D.view D.fault_count D.call_count partition who event answer given old new };
 
-    ghost did = { λ who event answer old new. Called D.tells D.view D.fault_count D.call_count who event answer old new };
+    ghost mapped = { λ who path event found old new. Mapped who path event found old new };
 
-    fn create(&mut self, alloc: Global, who: Who, path: &RepoPath, pool: bool) -> Answer {
+    fn route(&mut self, alloc: Global, who: Who, path: &RepoPath) -> Result<Option<u8>, Refusal> {
+        Ok(Some(1))
+    }
+
+    fn assign(
+        &mut self,
+        alloc: Global,
+        who: Who,
+        path: &RepoPath,
+        kin: Option<u8>,
+    ) -> Result<u8, Refusal> {
+        Ok(1)
+    }
+
+    fn create(
+        &mut self,
+        alloc: Global,
+        partition: u8,
+        who: Who,
+        path: &RepoPath,
+        pool: bool,
+    ) -> Answer {
         self.partition.create(alloc, who, path, pool)
     }
 
-    fn delete(&mut self, alloc: Global, who: Who, path: &RepoPath) -> Answer {
+    fn delete(&mut self, alloc: Global, partition: u8, who: Who, path: &RepoPath) -> Answer {
         self.partition.delete(alloc, who, path)
     }
 
     fn begin(
         &mut self,
         alloc: Global,
+        partition: u8,
         who: Who,
         path: &RepoPath,
         seen: u64,
@@ -58,23 +79,51 @@ impl<D: Disk + Drop> Parts for Local<D> {
         self.partition.begin(alloc, who, path, seen, pass)
     }
 
-    fn get_ref(&mut self, alloc: Global, who: Who, pass: &Pin, name: &RefName) -> Answer {
-        self.partition.get_ref(alloc, who, pass, name)
+    fn get_ref(
+        &mut self,
+        alloc: Global,
+        partition: u8,
+        who: Who,
+        pass: &mut Pin,
+        name: &RefName,
+    ) -> Answer {
+        self.partition.get_ref(alloc, who, &*pass, name)
     }
 
-    fn list_refs(&mut self, alloc: Global, who: Who, pass: &Pin, prefix: &[u8]) -> Answer {
-        self.partition.list_refs(alloc, who, pass, prefix)
+    fn list_refs(
+        &mut self,
+        alloc: Global,
+        partition: u8,
+        who: Who,
+        pass: &mut Pin,
+        prefix: &[u8],
+    ) -> Answer {
+        self.partition.list_refs(alloc, who, &*pass, prefix)
     }
 
-    fn cat(&mut self, alloc: Global, who: Who, pass: &Pin, name: &Name) -> Answer {
-        self.partition.cat(alloc, who, pass, name)
+    fn cat(
+        &mut self,
+        alloc: Global,
+        partition: u8,
+        who: Who,
+        pass: &mut Pin,
+        name: &Name,
+    ) -> Answer {
+        self.partition.cat(alloc, who, &*pass, name)
     }
 
-    fn commit(&mut self, alloc: Global, who: Who, pass: &mut Option<Pin>, stage: &Stage) -> Answer {
+    fn commit(
+        &mut self,
+        alloc: Global,
+        partition: u8,
+        who: Who,
+        pass: &mut Option<Pin>,
+        stage: &Stage,
+    ) -> Answer {
         self.partition.commit(alloc, who, pass, stage)
     }
 
-    fn abort(&mut self, who: Who, pass: Pin) -> Answer {
+    fn abort(&mut self, partition: u8, who: Who, pass: Pin) -> Answer {
         self.partition.abort(who, pass)
     }
 }

@@ -4,9 +4,9 @@ ghost use Rattle.std.specs.List.{All};
 ghost use Rattle.gt_disk.specs.Files.{Rose};
 ghost use Rattle.gt_disk.specs.declared.file_id.FileId.{FileId};
 ghost use Rattle.gt_log.specs.declared.mount_cause.MountCause.{MountCause};
-ghost use Rattle.gt_part.specs.Called.{Called};
 ghost use Rattle.gt_base.specs.Recovery.{recover};
 ghost use Rattle.gt_prog.specs.Lines.{new_sessions};
+ghost use Rattle.gt_prog.specs.One.{in_one, LocalDid};
 ghost use Rattle.gt_prog.specs.Played.{Played, PlayedPart, PlayedWhole};
 ghost use Rattle.gt_prog.specs.Script.{HasSession, not_built};
 ghost use Rattle.gt_session.specs.Together.{AreHeld, GiveUp};
@@ -18,6 +18,7 @@ use gt_disk::{Disk, FileId};
 use gt_log::{MountCause, MountError};
 use gt_outside::Sink;
 use gt_part::Partition;
+use gt_pins::Pin;
 use gt_script::Request;
 use gt_session::{Sessions, new_sessions_hold_nothing};
 use std::alloc::Global;
@@ -84,7 +85,7 @@ pub(crate) fn play<D: Disk + Drop, K: Sink>(
 fn play_lines<D: Disk + Drop, K: Sink>(
     alloc: Global,
     local: Local<D>,
-    sessions: &mut Sessions<Local<D>>,
+    sessions: &mut Sessions<Pin>,
     sink: &mut K,
     requests: &[Request],
 ) -> Result<Local<D>, PlayError<D>>
@@ -92,9 +93,9 @@ fn play_lines<D: Disk + Drop, K: Sink>(
     requires built { not_built requests.now ≡ None }
     requires sessions { All HasSession requests.now }
     requires begin { sessions.old ≡ new_sessions }
-    requires held { AreHeld sessions.old (map (λ p. p.number) local.live) }
+    requires held { AreHeld sessions.old (in_one (map (λ p. p.number) local.live)) }
     ensures played { IfOk result (λ p. Played D.tells D.view D.fault_count requests.now sessions.new local p (K.written sink.old) (K.written sink.new)) }
-    ensures held { IfOk result (λ p. AreHeld sessions.new (map (λ p. p.number) p.live)) }
+    ensures held { IfOk result (λ p. AreHeld sessions.new (in_one (map (λ p. p.number) p.live))) }
     ensures part { IfErr result (λ e. PlayedPart D.tells D.view D.fault_count e.cause requests.now local e.disk (K.written sink.old) (K.written sink.new)) }
     ensures later { K.faults sink.old ≤ K.faults sink.new }
     ensures counts { IfOk result (λ p. D.fault_count local.disk ≤ D.fault_count p.disk) }
@@ -126,9 +127,9 @@ fn play_lines<D: Disk + Drop, K: Sink>(
 }
 
 /// Has each session give up what it has open, and gives the partition back.
-fn finish<D: Disk + Drop>(local: Local<D>, sessions: Sessions<Local<D>>) -> Partition<D>
-    requires { AreHeld sessions (map (λ p. p.number) local.live) }
-    ensures ends { GiveUp (Called D.tells D.view D.fault_count D.call_count) sessions local result }
+fn finish<D: Disk + Drop>(local: Local<D>, sessions: Sessions<Pin>) -> Partition<D>
+    requires { AreHeld sessions (in_one (map (λ p. p.number) local.live)) }
+    ensures ends { GiveUp (LocalDid D.tells D.view D.fault_count D.call_count) sessions local result }
     ensures later { D.fault_count local.disk ≤ D.fault_count result.disk }
 {
     let mut local = local;

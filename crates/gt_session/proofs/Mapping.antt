@@ -1,5 +1,5 @@
--- What holds of calls by one relation holds by another that follows from it.
-use Rattle.std.proofs.Common.{◌≡◌, ℕ, List, [], ◌∷◌, Option, Some, None, Result, Ok, Err, ap, inl, inr}
+-- What holds of calls by one relation holds by another that follows from it, where each state of the partitions stands for something.
+use Rattle.std.proofs.Common.{ℕ, List, [], ◌∷◌, Option, Some, None, Result, Ok, Err, ap, inl, inr}
 use Rattle.gt_model.specs.declared.done.Done.{Done}
 use Rattle.gt_model.specs.declared.done.Done.TheVariants.{Aborted}
 use Rattle.gt_model.specs.declared.event.Event.{Event}
@@ -8,54 +8,54 @@ use Rattle.gt_model.specs.declared.refusal.Refusal.{Refusal}
 use Rattle.gt_model.specs.declared.who.Who.{Who}
 use Rattle.gt_script.specs.declared.form.Form.{Form}
 use Rattle.gt_session.specs.Sessions.{Open, Session}
-use Rattle.gt_session.specs.Courses.{Turned, Course, alone, asks, reads, course}
-use Rattle.gt_session.specs.Calls.{Takes, Makes, Does, GivesUp}
+use Rattle.gt_session.specs.Courses.{MapEvent, Turned, Course, refuses, alone, finds, asks, reads, course}
+use Rattle.gt_session.specs.Calls.{Takes, Makes, Answers, Follows, Does, GivesUp}
 use Rattle.gt_session.specs.Together.{Requests, GiveUp}
 
--- ---- the calls of one line
+module _ {P Q : Type 0} (Did : ℕ → Who → Event → Result Done Refusal → Option ℕ → P → P → Type 0) (Was : ℕ → Who → Event → Result Done Refusal → Option ℕ → Q → Q → Type 0) (stands : P → Q)
+    (calls : (partition : ℕ) (who : Who) (e : Event) (a : Result Done Refusal) (given : Option ℕ) (p p' : P) → Did partition who e a given p p' → Was partition who e a given (stands p) (stands p')) where
+  pub gives_up_map : (who : Who) (o : Option Open) (p p' : P) → GivesUp Did who o p p' → GivesUp Was who o (stands p) (stands p')
+  gives_up_map who None p p' h = ap stands h
+  gives_up_map who (Some o) p p' h = calls o.partition who (Abort o.pin) (Ok Aborted) None p p' h
 
-makes_map : {P Q : Type 0} (Did : Event → Result Done Refusal → P → P → Type 0) (Was : Event → Result Done Refusal → Q → Q → Type 0) (s : Session) (make : Done → Turned) (answer : Result Done Refusal) (turned : Turned) → Makes Did s make answer turned → Makes Was s make answer turned
-makes_map Did Was s make (Ok done) turned h = h
-makes_map Did Was s make (Err refusal) turned h = h
+  pub give_up_map : (ss : List Session) (p p' : P) → GiveUp Did ss p p' → GiveUp Was ss (stands p) (stands p')
+  give_up_map [] p p' h = ap stands h
+  give_up_map (s ∷ ss) p p' h = (stands h.0, gives_up_map (record { session = s.number; line = 0 }) s.open p h.0 h.1, give_up_map ss h.0 p' h.2)
 
-pub takes_map : {P Q : Type 0} (Did : Event → Result Done Refusal → P → P → Type 0) (Was : Event → Result Done Refusal → Q → Q → Type 0) (p p' : P) (q q' : Q)
-    → ((e : Event) (a : Result Done Refusal) → Did e a p p' → Was e a q q') → (p' ≡ p → q' ≡ q) → (pin : ℕ) (s : Session) (c : Course) (turned : Turned) → Takes Did pin s c turned p p' → Takes Was pin s c turned q q'
-takes_map Did Was p p' q q' calls same pin s (alone answered) turned (inl h) = inl (h.0, same h.1)
-takes_map Did Was p p' q q' calls same pin s (alone answered) turned (inr h) = inr (h.0, same h.1)
-takes_map Did Was p p' q q' calls same pin s (asks e) turned (inl h) = inl (calls e turned.0 h.0, h.1)
-takes_map Did Was p p' q q' calls same pin s (asks e) turned (inr h) = inr (h.0, (h.1.0, same h.1.1))
-takes_map Did Was p p' q q' calls same pin s (reads e make) turned (inl h) = inl (h.0, calls e h.0 h.1, makes_map Did Was s make h.0 turned h.2)
-takes_map Did Was p p' q q' calls same pin s (reads e make) turned (inr h) = inr (h.0, same h.1)
+  module _ (Mapped : Who → List ℕ → MapEvent → Result (Option ℕ) Refusal → P → P → Type 0) (WasMapped : Who → List ℕ → MapEvent → Result (Option ℕ) Refusal → Q → Q → Type 0)
+      (maps : (who : Who) (path : List ℕ) (e : MapEvent) (found : Result (Option ℕ) Refusal) (p p' : P) → Mapped who path e found p p' → WasMapped who path e found (stands p) (stands p')) where
+    makes_map : (who : Who) (s : Session) (make : Done → Turned) (answer : Result Done Refusal) (turned : Turned) → Makes Did Mapped who s make answer turned → Makes Was WasMapped who s make answer turned
+    makes_map who s make (Ok done) turned h = h
+    makes_map who s make (Err refusal) turned h = h
 
-pub does_map : {P Q : Type 0} (Did : Event → Result Done Refusal → P → P → Type 0) (Was : Event → Result Done Refusal → Q → Q → Type 0) (p p' : P) (q q' : Q)
-    → ((e : Event) (a : Result Done Refusal) → Did e a p p' → Was e a q q') → (p' ≡ p → q' ≡ q) → (pin : ℕ) (s : Session) (c : Option Course) (turned : Turned) → Does Did pin s c turned p p' → Does Was pin s c turned q q'
-does_map Did Was p p' q q' calls same pin s None turned h = h
-does_map Did Was p p' q q' calls same pin s (Some c) turned h = takes_map Did Was p p' q q' calls same pin s c turned h
+    answers_map : (who : Who) (s : Session) (partition : ℕ) (e : Event) (turned : Turned) (p p' : P) → Answers Did Mapped who s partition e turned p p' → Answers Was WasMapped who s partition e turned (stands p) (stands p')
+    answers_map who s partition e turned p p' h = (h.0, h.1, calls partition who e turned.0 h.0 p p' h.2, h.3)
 
-pub gives_up_map : {P Q : Type 0} (Did : Event → Result Done Refusal → P → P → Type 0) (Was : Event → Result Done Refusal → Q → Q → Type 0) (p p' : P) (q q' : Q)
-    → ((e : Event) (a : Result Done Refusal) → Did e a p p' → Was e a q q') → (p' ≡ p → q' ≡ q) → (o : Option Open) → GivesUp Did o p p' → GivesUp Was o q q'
-gives_up_map Did Was p p' q q' calls same None h = same h
-gives_up_map Did Was p p' q q' calls same (Some o) h = calls (Abort o.pin) (Ok Aborted) h
+    follows_map : (who : Who) (s : Session) (event : ℕ → Event) (found : Result (Option ℕ) Refusal) (turned : Turned) (p p' : P) → Follows Did Mapped who s event found turned p p' → Follows Was WasMapped who s event found turned (stands p) (stands p')
+    follows_map who s event (Err refusal) turned p p' h = (h.0, ap stands h.1)
+    follows_map who s event (Ok None) turned p p' h = (h.0, ap stands h.1)
+    follows_map who s event (Ok (Some partition)) turned p p' h = (h.0, answers_map who s partition (event partition) turned p p' h.1)
 
--- ---- the calls of the sessions of a script
+    pub takes_map : (who : Who) (s : Session) (c : Course) (turned : Turned) (p p' : P) → Takes Did Mapped who s c turned p p' → Takes Was WasMapped who s c turned (stands p) (stands p')
+    takes_map who s (refuses refusal) turned p p' h = (h.0, ap stands h.1)
+    takes_map who s (alone answered) turned p p' (inl h) = inl (h.0, ap stands h.1)
+    takes_map who s (alone answered) turned p p' (inr h) = inr (h.0, ap stands h.1)
+    takes_map who s (finds path e event) turned p p' (inl h) = inl (stands h.0, h.1, maps who path e h.1 p h.0 h.2, follows_map who s event h.1 turned h.0 p' h.3)
+    takes_map who s (finds path e event) turned p p' (inr h) = inr (h.0, ap stands h.1)
+    takes_map who s (asks partition e) turned p p' (inl h) = inl (answers_map who s partition e turned p p' h)
+    takes_map who s (asks partition e) turned p p' (inr h) = inr (h.0, (h.1.0, ap stands h.1.1))
+    takes_map who s (reads partition e make) turned p p' (inl h) = inl (h.0, calls partition who e h.0 None p p' h.1, makes_map who s make h.0 turned h.2)
+    takes_map who s (reads partition e make) turned p p' (inr h) = inr (h.0, ap stands h.1)
 
-pub requests_map : {P Q : Type 0} (Did : Who → Event → Result Done Refusal → P → P → Type 0) (Was : Who → Event → Result Done Refusal → Q → Q → Type 0) (p p' : P) (q q' : Q)
-    → ((who : Who) (e : Event) (a : Result Done Refusal) → Did who e a p p' → Was who e a q q') → (p' ≡ p → q' ≡ q) → (pin line session : ℕ) (form : Form) (answer : Result Done Refusal) (olds news : List Session)
-    → Requests Did pin line session form answer olds news p p' → Requests Was pin line session form answer olds news q q'
-requests_map Did Was p p' q q' calls same pin line session form answer olds news h =
-    let who : Who = record { session = session; line = line } in
-    record {
+    pub does_map : (who : Who) (s : Session) (c : Option Course) (turned : Turned) (p p' : P) → Does Did Mapped who s c turned p p' → Does Was WasMapped who s c turned (stands p) (stands p')
+    does_map who s None turned p p' h = h
+    does_map who s (Some c) turned p p' h = takes_map who s c turned p p' h
+
+    pub requests_map : (line session : ℕ) (form : Form) (answer : Result Done Refusal) (olds news : List Session) (p p' : P) → Requests Did Mapped line session form answer olds news p p' → Requests Was WasMapped line session form answer olds news (stands p) (stands p')
+    requests_map line session form answer olds news p p' h = record {
       before = h.before;
       here = h.here;
       after = h.after;
       there = h.there;
-      does = does_map (Did who) (Was who) p p' q q' (calls who) same pin h.before (course h.before form) (answer, h.after) h.does;
+      does = does_map (record { session = session; line = line }) h.before (course h.before form) (answer, h.after) p p' h.does;
     }
-
--- Here there are many calls, so each partition stands for something.
-pub give_up_map : {P Q : Type 0} (Did : Who → Event → Result Done Refusal → P → P → Type 0) (Was : Who → Event → Result Done Refusal → Q → Q → Type 0) (stands : P → Q)
-    → ((who : Who) (e : Event) (a : Result Done Refusal) (p p' : P) → Did who e a p p' → Was who e a (stands p) (stands p')) → (ss : List Session) (p p' : P) → GiveUp Did ss p p' → GiveUp Was ss (stands p) (stands p')
-give_up_map Did Was stands calls [] p p' h = ap stands h
-give_up_map Did Was stands calls (s ∷ ss) p p' h =
-    let who : Who = record { session = s.number; line = 0 } in
-    (stands h.0, gives_up_map (Did who) (Was who) p h.0 (stands p) (stands h.0) (λ e a. calls who e a p h.0) (ap stands) s.open h.1, give_up_map Did Was stands calls ss h.0 p' h.2)

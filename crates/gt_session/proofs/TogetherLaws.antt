@@ -9,8 +9,8 @@ use Rattle.gt_model.specs.declared.event.Event.{Event}
 use Rattle.gt_model.specs.declared.refusal.Refusal.{Refusal}
 use Rattle.gt_model.specs.declared.who.Who.{Who}
 use Rattle.gt_script.specs.declared.form.Form.{Form}
-use Rattle.gt_session.specs.Sessions.{Session, new_session, forgotten, pin_in}
-use Rattle.gt_session.specs.Courses.{course}
+use Rattle.gt_session.specs.Sessions.{Session, new_session, forgotten, pass_in}
+use Rattle.gt_session.specs.Courses.{MapEvent, course}
 use Rattle.gt_session.specs.Calls.{Does, GivesUp, IsHeld, LeavesOthers}
 use Rattle.gt_session.specs.Together.{sessions_from, AreNumbered, Requests, GiveUp, AreHeld}
 
@@ -90,14 +90,14 @@ sessions_numbered ss are = subst AreNumbered (sym are) (record {
 
 -- ---- sessions that have nothing open
 
-hold_nothing : (ss : List Session) (live : List ℕ) → ((i : ℕ) (s : Session) → slice_get ss i ≡ Some s → pin_in s ≡ None) → AreHeld ss live
+hold_nothing : (ss : List Session) (live : ℕ → List ℕ) → ((i : ℕ) (s : Session) → slice_get ss i ≡ Some s → pass_in s ≡ None) → AreHeld ss live
 hold_nothing ss live none = record {
-  held = λ i s at. subst (λ (o : Option ℕ). IsHeld o live) (sym (none i s at)) tt;
-  apart = λ i j s t n other at bt is also. let shut : pin_in s ≡ None = none i s at in absurd cc;
+  held = λ i s at. subst (λ (o : Option (ℕ × ℕ)). IsHeld o live) (sym (none i s at)) tt;
+  apart = λ i j s t pass other at bt is also. let shut : pass_in s ≡ None = none i s at in absurd cc;
 }
 
-pub new_hold_nothing : (live : List ℕ) → AreHeld (sessions_from 1 128) live
-new_hold_nothing live = hold_nothing (sessions_from 1 128) live (λ i s at. ap (λ (t : Session). pin_in t) (session_at 1 128 i s at))
+pub new_hold_nothing : (live : ℕ → List ℕ) → AreHeld (sessions_from 1 128) live
+new_hold_nothing live = hold_nothing (sessions_from 1 128) live (λ i s at. ap (λ (t : Session). pass_in t) (session_at 1 128 i s at))
 
 -- what was forgotten at an index
 forgotten_from : (ss : List Session) (i : ℕ) (s : Session) → slice_get (map_list forgotten ss) i ≡ Some s → (t : Session) × (slice_get ss i ≡ Some t) × (s ≡ forgotten t)
@@ -111,8 +111,8 @@ numbered_forgotten ss news are e = subst AreNumbered (sym e) (record {
   numbers = λ i s at. let f = forgotten_from ss i s at in ap (λ (t : Session). t.number) f.2 ∙ are.numbers i f.0 f.1;
 })
 
-pub forgotten_hold_nothing : (ss : List Session) (live : List ℕ) → AreHeld (map_list forgotten ss) live
-forgotten_hold_nothing ss live = hold_nothing (map_list forgotten ss) live (λ i s at. ap (λ (t : Session). pin_in t) (forgotten_from ss i s at).2)
+pub forgotten_hold_nothing : (ss : List Session) (live : ℕ → List ℕ) → AreHeld (map_list forgotten ss) live
+forgotten_hold_nothing ss live = hold_nothing (map_list forgotten ss) live (λ i s at. ap (λ (t : Session). pass_in t) (forgotten_from ss i s at).2)
 
 -- ---- a session changes
 
@@ -126,41 +126,41 @@ numbered_set ss n before after are at same = record {
       ];
 }
 
-module _ (ss : List Session) (n : ℕ) (before after : Session) (old new : List ℕ) (are : AreHeld ss old) (at : slice_get ss n ≡ Some before) (leaves : LeavesOthers (pin_in before) (pin_in after) old new) where
+module _ (ss : List Session) (n : ℕ) (before after : Session) (old new : ℕ → List ℕ) (are : AreHeld ss old) (at : slice_get ss n ≡ Some before) (leaves : LeavesOthers (pass_in before) (pass_in after) old new) where
   -- what another session has open stays live
-  other_held : (i : ℕ) (s : Session) (pin : Option ℕ) → pin_in s ≡ pin → i ≢ n → slice_get ss i ≡ Some s → IsHeld pin old → IsHeld pin new
+  other_held : (i : ℕ) (s : Session) (pass : Option (ℕ × ℕ)) → pass_in s ≡ pass → i ≢ n → slice_get ss i ≡ Some s → IsHeld pass old → IsHeld pass new
   other_held i s None e other is h = tt
-  other_held i s (Some m) e other is h = leaves.others m h (λ same. are.apart i n s before m other is at e same)
+  other_held i s (Some m) e other is h = leaves.others m.0 m.1 h (λ same. are.apart i n s before m other is at e same)
 
   -- and it isn't what this one has open
-  other_apart : (i : ℕ) (s : Session) (m : ℕ) → i ≢ n → slice_get ss i ≡ Some s → pin_in s ≡ Some m → pin_in after ≡ Some m → ⊥
+  other_apart : (i : ℕ) (s : Session) (m : ℕ × ℕ) → i ≢ n → slice_get ss i ≡ Some s → pass_in s ≡ Some m → pass_in after ≡ Some m → ⊥
   other_apart i s m other is e now =
-      elim (leaves.fresh m now) [
+      elim (leaves.fresh m.0 m.1 now) [
         | inl held ↦ are.apart i n s before m other is at e held
-        | inr free ↦ free (subst (λ (o : Option ℕ). IsHeld o old) e (are.held i s is))
+        | inr free ↦ free (subst (λ (o : Option (ℕ × ℕ)). IsHeld o old) e (are.held i s is))
       ]
 
   within : n < length ss
   within = slice_get_within ss n before at
 
-  held_at : (i : ℕ) (s : Session) → slice_get (set ss n after) i ≡ Some s → IsHeld (pin_in s) new
+  held_at : (i : ℕ) (s : Session) → slice_get (set ss n after) i ≡ Some s → IsHeld (pass_in s) new
   held_at i s is =
       elim (get_set ss n i after s within is) [
-        | inl here ↦ subst (λ (t : Session). IsHeld (pin_in t) new) here.1 leaves.own
-        | inr other ↦ other_held i s (pin_in s) refl other.0 other.1 (are.held i s other.1)
+        | inl here ↦ subst (λ (t : Session). IsHeld (pass_in t) new) here.1 leaves.own
+        | inr other ↦ other_held i s (pass_in s) refl other.0 other.1 (are.held i s other.1)
       ]
 
-  apart_at : (i j : ℕ) (s t : Session) (m : ℕ) → i ≢ j → slice_get (set ss n after) i ≡ Some s → slice_get (set ss n after) j ≡ Some t → pin_in s ≡ Some m → pin_in t ≡ Some m → ⊥
+  apart_at : (i j : ℕ) (s t : Session) (m : ℕ × ℕ) → i ≢ j → slice_get (set ss n after) i ≡ Some s → slice_get (set ss n after) j ≡ Some t → pass_in s ≡ Some m → pass_in t ≡ Some m → ⊥
   apart_at i j s t m differ is jt si tj =
       elim (get_set ss n i after s within is) [
         | inl here ↦
             elim (get_set ss n j after t within jt) [
               | inl there ↦ differ (here.0 ∙ sym there.0)
-              | inr other ↦ other_apart j t m other.0 other.1 tj (ap (λ (x : Session). pin_in x) here.1 ∙ si)
+              | inr other ↦ other_apart j t m other.0 other.1 tj (ap (λ (x : Session). pass_in x) here.1 ∙ si)
             ]
         | inr other ↦
             elim (get_set ss n j after t within jt) [
-              | inl there ↦ other_apart i s m other.0 other.1 si (ap (λ (x : Session). pin_in x) there.1 ∙ tj)
+              | inl there ↦ other_apart i s m other.0 other.1 si (ap (λ (x : Session). pass_in x) there.1 ∙ tj)
               | inr too ↦ are.apart i j s t m differ other.1 too.1 si tj
             ]
       ]
@@ -172,11 +172,11 @@ module _ (ss : List Session) (n : ℕ) (before after : Session) (old new : List 
 
 -- the session at the index before this number does the line under the number
 pub requested :
-    {P : Type 0} (Did : Who → Event → Result Done Refusal → P → P → Type 0) (pin line session : ℕ) (form : Form) (answer : Result Done Refusal) (olds news : List Session) (before after : Session) (old new : P)
+    {P : Type 0} (Did : ℕ → Who → Event → Result Done Refusal → Option ℕ → P → P → Type 0) (Mapped : Who → List ℕ → MapEvent → Result (Option ℕ) Refusal → P → P → Type 0) (line session : ℕ) (form : Form) (answer : Result Done Refusal) (olds news : List Session) (before after : Session) (old new : P)
     → AreNumbered olds → 1 ≤ session → slice_get olds (session - 1) ≡ Some before → news ≡ set olds (session - 1) after
-    → Does (Did (record { session = before.number; line = line })) pin before (course before form) (answer, after) old new
-    → Requests Did pin line session form answer olds news old new
-requested Did pin line session form answer olds news before after old new are least at is does =
+    → Does Did Mapped (record { session = before.number; line = line }) before (course before form) (answer, after) old new
+    → Requests Did Mapped line session form answer olds news old new
+requested Did Mapped line session form answer olds news before after old new are least at is does =
     let e : (session - 1) + 1 ≡ session = omega arith in
     let same : before.number ≡ session = are.numbers (session - 1) before at ∙ e in
     record {
@@ -184,7 +184,7 @@ requested Did pin line session form answer olds news before after old new are le
       here = at;
       after = after;
       there = is;
-      does = subst (λ (n : ℕ). Does (Did (record { session = n; line = line })) pin before (course before form) (answer, after) old new) same does;
+      does = subst (λ (n : ℕ). Does Did Mapped (record { session = n; line = line }) before (course before form) (answer, after) old new) same does;
     }
 
 -- ---- the first sessions are forgotten
@@ -224,12 +224,12 @@ forgotten_step n ss now news s after are at is put =
 
 -- ---- the first sessions have given up
 
-module _ {P : Type 0} (Did : Who → Event → Result Done Refusal → P → P → Type 0) (start : P) (ss : List Session) where
+module _ {P : Type 0} (Did : ℕ → Who → Event → Result Done Refusal → Option ℕ → P → P → Type 0) (start : P) (ss : List Session) where
   -- When those from this index on have given up as well, all have.
   abbrev pub GaveUpTo : ℕ → P → Type 0
   GaveUpTo n now = (end' : P) → GiveUp Did (drop n ss) now end' → GiveUp Did ss start end'
 
-  pub gave_up_more : (n : ℕ) (s : Session) (now next : P) → slice_get ss n ≡ Some s → GivesUp (Did (record { session = s.number; line = 0 })) s.open now next → GaveUpTo n now → GaveUpTo (n + 1) next
+  pub gave_up_more : (n : ℕ) (s : Session) (now next : P) → slice_get ss n ≡ Some s → GivesUp Did (record { session = s.number; line = 0 }) s.open now next → GaveUpTo n now → GaveUpTo (n + 1) next
   gave_up_more n s now next at gives so end' rest =
       let first : drop n ss ≡ s ∷ drop (n + 1) ss = drop_more ss n s (slice_get_within ss n s at) ∙ ap (λ (t : Session). t ∷ drop (n + 1) ss) (get_or_from_slice_get ss n s s at) in
       so end' (subst (λ (l : List Session). GiveUp Did l now end') (sym first) (next, gives, rest))

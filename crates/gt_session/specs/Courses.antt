@@ -1,4 +1,4 @@
--- What a line of a session comes to: an answer of its own, or a call of the partition.
+-- What a line of a session comes to: an answer of its own, or a call of a partition.
 use Rattle.std.specs.Prelude.{ℕ, Bool, true, false, List, [], ◌++◌, length, map as map_list, Option, Some, None, Result, Ok, Err, codes, bytes_eq, if◌then◌else◌}
 use Rattle.std.specs.FinMap as map
 use Rattle.hex.specs.Hex.{decode_of}
@@ -24,35 +24,39 @@ use Rattle.gt_model.specs.Machine.{references}
 use Rattle.gt_script.specs.declared.form.Form.{Form}
 use Rattle.gt_script.specs.declared.form.Form.TheVariants as line
 use Rattle.gt_stage.specs.Staging.{Holding, own_ref, own_record, is_over_refs, is_over_bytes, staged_set, staged_check, staged_put}
-use Rattle.gt_session.specs.Sessions.{Open, Session, begun, with_stage, forgotten, told}
+use Rattle.gt_session.specs.Sessions.{Open, Session, begun, with_stage, forgotten, seen_of, told}
 
 -- An answer, and the session after it.
 abbrev pub Turned : Type 0
 Turned = Result Done Refusal × Session
 
--- The session answers by itself. Or the answer is the partition's to an event. Or it makes its own answer of what the partition read for it, whose refusals stand.
-pub data Course : Type 0 where
-  alone : Turned → Course
-  asks : Event → Course
-  reads : Event → (Done → Turned) → Course
+-- The map of paths is asked for the partition of a path. Or it is to give the path one, where it has none: this one, or one of its own choice.
+pub data MapEvent : Type 0 where
+  ask : MapEvent
+  assign : Option ℕ → MapEvent
 
-abbrev pub refused : Session → Refusal → Course
-refused s refusal = alone (Err refusal, s)
+-- The session refuses by itself, and wants no memory for it. Or it answers by itself. Or the map says the partition of a path, and the answer is the one there to the event that is made for it; a path without one has no repository. Or the answer is the one of this partition to an event. Or the session makes its own answer of what this partition read for it, whose refusals stand.
+pub data Course : Type 0 where
+  refuses : Refusal → Course
+  alone : Turned → Course
+  finds : List ℕ → MapEvent → (ℕ → Event) → Course
+  asks : ℕ → Event → Course
+  reads : ℕ → Event → (Done → Turned) → Course
 
 -- ---- the words of a line
 
-abbrev pub with_path : Session → List ℕ → Course → Course
-with_path s text course = elim (bad_path text) [ None ↦ course | Some at ↦ refused s (BadPath at) ]
+abbrev pub with_path : List ℕ → Course → Course
+with_path text course = elim (bad_path text) [ None ↦ course | Some at ↦ refuses (BadPath at) ]
 
-abbrev pub with_ref : Session → List ℕ → Course → Course
-with_ref s text course = elim (bad_ref text) [ None ↦ course | Some bad ↦ refused s (BadRef bad.0 bad.1) ]
+abbrev pub with_ref : List ℕ → Course → Course
+with_ref text course = elim (bad_ref text) [ None ↦ course | Some bad ↦ refuses (BadRef bad.0 bad.1) ]
 
 -- what is to be done with the transaction that is open
 abbrev pub with_open : Session → (Open → Course) → Course
-with_open s course = elim s.open [ None ↦ refused s NotOpen | Some o ↦ course o ]
+with_open s course = elim s.open [ None ↦ refuses NotOpen | Some o ↦ course o ]
 
 abbrev pub unless_open : Session → Course → Course
-unless_open s course = elim s.open [ None ↦ course | Some o ↦ refused s AlreadyOpen ]
+unless_open s course = elim s.open [ None ↦ course | Some o ↦ refuses AlreadyOpen ]
 
 abbrev pub decoded : Result (List ℕ) FromHexError → List ℕ
 decoded (Ok bytes) = bytes
@@ -99,14 +103,14 @@ old_in done = zero
 -- an update or a check with the old value that is given, or else the one that the transaction sees
 abbrev pub with_old : Session → Open → List ℕ → Option (List ℕ) → (List ℕ → Turned) → Course
 with_old s o name (Some old) turned = alone (turned old)
-with_old s o name None turned = elim (own_ref o.stage.staged.refs name) [ Some own ↦ alone (turned own) | None ↦ reads (event.GetRef o.pin name) (λ done. turned (old_in done)) ]
+with_old s o name None turned = elim (own_ref o.stage.staged.refs name) [ Some own ↦ alone (turned own) | None ↦ reads o.partition (event.GetRef o.pin name) (λ done. turned (old_in done)) ]
 
 -- a reference's value, none where it is zero
 abbrev pub value_of : List ℕ → Option (List ℕ)
 value_of v = if is_zero v then None else Some v
 
 abbrev pub get : Session → Open → List ℕ → Course
-get s o name = elim (own_ref o.stage.staged.refs name) [ Some own ↦ alone (Ok (Value (value_of own)), s) | None ↦ asks (event.GetRef o.pin name) ]
+get s o name = elim (own_ref o.stage.staged.refs name) [ Some own ↦ alone (Ok (Value (value_of own)), s) | None ↦ asks o.partition (event.GetRef o.pin name) ]
 
 abbrev pub as_names : List RefValue → Names
 as_names list = map.from_entries {R = key_cmp} (map_list (λ r. (r.name, r.value)) list)
@@ -120,23 +124,23 @@ list_in s o prefix (Refs list) = (Ok (Refs (laid_over o.stage.staged.refs prefix
 list_in s o prefix done = (Ok done, s)
 
 abbrev pub cat : Session → Open → List ℕ → Course
-cat s o name = elim (own_record o.stage.staged.records name) [ Some whole ↦ alone (Ok (Object whole), s) | None ↦ asks (event.Cat o.pin name) ]
+cat s o name = elim (own_record o.stage.staged.records name) [ Some whole ↦ alone (Ok (Object whole), s) | None ↦ asks o.partition (event.Cat o.pin name) ]
 
 -- ---- the whole
 
 -- what a line of a session comes to; the forms that no session does yet have no course
 abbrev pub course : Session → Form → Option Course
-course s (line.Create path None) = Some (with_path s path (asks (event.Create path false)))
-course s (line.Delete path) = Some (with_path s path (asks (event.Delete path)))
-course s (line.Begin path None) = Some (unless_open s (with_path s path (asks (event.Begin path s.seen))))
+course s (line.Create path None) = Some (with_path path (finds path (assign None) (λ p. event.Create path false)))
+course s (line.Delete path) = Some (with_path path (finds path ask (λ p. event.Delete path)))
+course s (line.Begin path None) = Some (unless_open s (with_path path (finds path ask (λ p. event.Begin path (seen_of s p)))))
 course s (line.Put kind content) = Some (with_open s (λ o. alone (put s o kind (content_of content))))
-course s (line.Set name old new) = Some (with_open s (λ o. with_ref s name (with_old s o name old (set s o name new))))
-course s (line.Verify name old) = Some (with_open s (λ o. with_ref s name (with_old s o name old (check s o name))))
-course s (line.Get name) = Some (with_open s (λ o. with_ref s name (get s o name)))
-course s (line.List prefix) = Some (with_open s (λ o. reads (event.ListRefs o.pin prefix) (list_in s o prefix)))
+course s (line.Set name old new) = Some (with_open s (λ o. with_ref name (with_old s o name old (set s o name new))))
+course s (line.Verify name old) = Some (with_open s (λ o. with_ref name (with_old s o name old (check s o name))))
+course s (line.Get name) = Some (with_open s (λ o. with_ref name (get s o name)))
+course s (line.List prefix) = Some (with_open s (λ o. reads o.partition (event.ListRefs o.pin prefix) (list_in s o prefix)))
 course s (line.Cat name) = Some (with_open s (λ o. cat s o name))
-course s line.Commit = Some (with_open s (λ o. asks (event.Commit o.pin o.stage.staged.refs o.stage.staged.records)))
-course s line.Abort = Some (with_open s (λ o. asks (event.Abort o.pin)))
+course s line.Commit = Some (with_open s (λ o. asks o.partition (event.Commit o.pin o.stage.staged.refs o.stage.staged.records)))
+course s line.Abort = Some (with_open s (λ o. asks o.partition (event.Abort o.pin)))
 course s form = None
 
 -- whether a form has a course
@@ -154,7 +158,7 @@ has_course line.Commit = true
 has_course line.Abort = true
 has_course form = false
 
--- ---- after a call of the partition
+-- ---- after a call of a partition
 
 -- whether an answer to a commit ends the transaction
 abbrev pub ends : Result Done Refusal → Bool
@@ -166,13 +170,18 @@ ends (Err (MissingObject name needer)) = true
 ends (Err (Unsure position)) = true
 ends (Err refusal) = false
 
-abbrev pub opened : Session → ℕ → Result Done Refusal → Session
-opened s pin (Ok done) = record s { «open» = Some (begun pin) }
-opened s pin (Err refusal) = s
+-- whether an event with this answer begins a transaction, which gives a pass
+abbrev pub begins : Event → Result Done Refusal → Bool
+begins (event.Begin path seen) (Ok done) = true
+begins e answer = false
 
--- The session after the answer to an event that it asked: what began is open under its number, and what ended isn't.
-abbrev pub after_event : Session → ℕ → Event → Result Done Refusal → Session
-after_event s pin (event.Begin path seen) answer = opened (told s answer) pin answer
-after_event s pin (event.Commit p refs records) answer = if ends answer then forgotten (told s answer) else told s answer
-after_event s pin (event.Abort p) answer = forgotten s
-after_event s pin e answer = told s answer
+abbrev pub opened : Session → ℕ → Option ℕ → Session
+opened s partition None = s
+opened s partition (Some pin) = record s { «open» = Some (begun partition pin) }
+
+-- The session after a partition's answer to an event that it asked, with the number of the pass that was given: what began is open under it, and what ended isn't.
+abbrev pub after_event : Session → ℕ → Option ℕ → Event → Result Done Refusal → Session
+after_event s partition given (event.Begin path seen) answer = opened (told s partition answer) partition given
+after_event s partition given (event.Commit pin refs records) answer = if ends answer then forgotten (told s partition answer) else told s partition answer
+after_event s partition given (event.Abort pin) answer = forgotten s
+after_event s partition given e answer = told s partition answer

@@ -18,7 +18,7 @@ use Rattle.gt_stage.specs.declared.error.StageError.{StageError}
 use Rattle.gt_stage.specs.declared.error.StageError.TheVariants as stage
 use Rattle.gt_stage.specs.Staging.{Holding, own_ref}
 use Rattle.gt_session.specs.Sessions.{Open, Session}
-use Rattle.gt_session.specs.Courses.{Course, alone, asks, reads, Turned, old_in, laid_over}
+use Rattle.gt_session.specs.Courses.{Course, refuses, alone, finds, asks, reads, Turned, old_in, laid_over}
 
 -- ---- the words of a line
 
@@ -40,15 +40,17 @@ abbrev pub Turns : Session → Turned → Turned → Type 0
 Turns s answered turned = (turned ≡ answered) ⊎ (turned ≡ (Err Memory, s))
 
 abbrev pub IsAlone : Session → Course → Turned → Type 0
+IsAlone s (refuses refusal) turned = turned ≡ (Err refusal, s)
 IsAlone s (alone answered) turned = Turns s answered turned
-IsAlone s (asks e) turned = ⊥
-IsAlone s (reads e make) turned = ⊥
+IsAlone s (finds path e event) turned = ⊥
+IsAlone s (asks partition e) turned = ⊥
+IsAlone s (reads partition e make) turned = ⊥
 
 -- an open transaction, and a session that has it open
-abbrev pub open_with : ℕ → Holding → Open
-open_with pin stage = record { pin = pin; stage = stage }
+abbrev pub open_with : ℕ → ℕ → Holding → Open
+open_with partition pin stage = record { partition = partition; pin = pin; stage = stage }
 
-abbrev pub session_with : ℕ → ℕ → Open → Session
+abbrev pub session_with : ℕ → List ℕ → Open → Session
 session_with number seen o = record { number = number; «open» = Some o; seen = seen }
 
 abbrev pub stage_refusal : StageError → Refusal
@@ -58,8 +60,8 @@ stage_refusal stage.Memory = Memory
 -- The stage of any session takes this turn.
 abbrev pub TurnsStage : (Session → Open → Turned) → Holding → Result Done Refusal → Holding → Type 0
 TurnsStage turn old answer new =
-    (number seen pin : ℕ)
-    → Turns (session_with number seen (open_with pin old)) (turn (session_with number seen (open_with pin old)) (open_with pin old)) (answer, session_with number seen (open_with pin new))
+    (number : ℕ) (seen : List ℕ) (partition pin : ℕ)
+    → Turns (session_with number seen (open_with partition pin old)) (turn (session_with number seen (open_with partition pin old)) (open_with partition pin old)) (answer, session_with number seen (open_with partition pin new))
 
 -- ---- a list of references
 

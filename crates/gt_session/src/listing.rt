@@ -6,12 +6,12 @@ ghost use Rattle.gt_model.specs.declared.event.Event.{Event};
 ghost use Rattle.gt_model.specs.declared.refusal.Refusal.{Refusal};
 ghost use Rattle.gt_model.specs.Contents.{with_value, with_refs};
 ghost use Rattle.gt_model.specs.Machine.{references};
-ghost use Rattle.gt_session.specs.Sessions.{Open, Session as Seen, pin_in};
+ghost use Rattle.gt_session.specs.Sessions.{Open, Session as Seen, pass_in};
 ghost use Rattle.gt_session.specs.Courses.{with_open, reads, list_in, as_names, laid_over};
 ghost use Rattle.gt_session.specs.Calls.{Takes, IsHeld};
 ghost use Rattle.gt_session.specs.Pieces.{names_of, values_with, done_over};
 
-use crate::{Parts, Session};
+use crate::{Numbered, Parts, Session};
 use gt_list::NoMemory;
 use gt_model::{Answer, Done, RefList, RefValue, Refusal, Who};
 use gt_name::{Name, RefName};
@@ -19,21 +19,28 @@ use gt_stage::Stage;
 use std::alloc::Global;
 use std::collections::BTreeMap;
 
-impl<P: Parts> Session<P> {
+impl<T: Numbered> Session<T> {
     /// The references whose names begin so: those that the partition reads, with the staged updates laid over them.
-    pub(crate) fn list(&self, alloc: Global, parts: &mut P, line: u32, prefix: &[u8]) -> Answer
-        requires held { IsHeld (pin_in self.now) (P.live parts.old) }
-        ensures takes { Takes (P.did (record { session = self.now.number; line = line })) (P.next parts.old) self.now (with_open self.now (λ o. reads (Event.ListRefs o.pin prefix.now) (list_in self.now o prefix.now))) (result, self.now) parts.old parts.new }
+    pub(crate) fn list<P: Parts<Pass = T>>(
+        &mut self,
+        alloc: Global,
+        parts: &mut P,
+        line: u32,
+        prefix: &[u8],
+    ) -> Answer
+        requires held { IsHeld (pass_in self.old) (P.live parts.old) }
+        ensures takes { Takes P.did P.mapped (record { session = self.old.number; line = line }) self.old (with_open self.old (λ o. reads o.partition (Event.ListRefs o.pin prefix.now) (list_in self.old o prefix.now))) (result, self.new) parts.old parts.new }
         ensures live { P.live parts.new ≡ P.live parts.old }
+        ensures pass { pass_in self.new ≡ pass_in self.old }
     {
-        let Some(pass) = &self.pass else {
+        let Some(pass) = &mut self.pass else {
             return Err(Refusal::NotOpen);
         };
         let who = Who {
             session: self.number,
             line,
         };
-        match parts.list_refs(alloc, who, pass, prefix) {
+        match parts.list_refs(alloc, self.partition, who, pass, prefix) {
             Ok(done) => done_over(alloc, &self.stage, prefix, done),
             Err(refusal) => Err(refusal),
         }

@@ -1,5 +1,6 @@
-ghost use Rattle.std.specs.Prelude.{◌≡◌, max};
+ghost use Rattle.std.specs.Prelude.{◌≡◌, ◌-◌, max, slice_index};
 ghost use Rattle.gt_model.specs.Histories.{done_position, position};
+ghost use Rattle.gt_session.specs.Sessions.{IsPartition, heard};
 
 use gt_model::{Answer, Done};
 
@@ -22,11 +23,28 @@ fn done_position(done: &Done) -> u64
 }
 
 /// The greater one of a position that was seen and the one that an answer names.
-pub(crate) fn later(seen: u64, answer: &Answer) -> u64
+fn later(seen: u64, answer: &Answer) -> u64
     ensures { result ≡ max seen (position answer.now) }
 {
     match answer {
         Ok(done) => seen.max(done_position(done)),
         Err(_) => seen,
     }
+}
+
+/// The greatest position that was seen of a partition.
+pub(crate) fn seen_of(seen: &[u64; 8], partition: u8) -> u64
+    requires { IsPartition partition }
+    ensures { result ≡ slice_index seen.now (partition - 1) }
+{
+    seen[partition as usize - 1]
+}
+
+/// An answer of a partition was heard.
+pub(crate) fn hear(seen: &mut [u64; 8], partition: u8, answer: &Answer)
+    requires { IsPartition partition }
+    ensures { seen.new ≡ heard seen.old partition answer.now }
+{
+    let at = partition as usize - 1;
+    seen[at] = later(seen[at], answer);
 }

@@ -1,9 +1,11 @@
-ghost use Rattle.std.specs.Prelude.{◌≡◌, ◌≢◌, ℕ, None, true};
-ghost use Rattle.gt_session.specs.Sessions.{Session as Seen, new_session, forgotten, pin_in};
+ghost use Rattle.std.specs.Prelude.{◌≡◌, ◌≢◌, ℕ, None, true, IfErr};
+ghost use Rattle.gt_model.specs.declared.refusal.Refusal.{Refusal};
+ghost use Rattle.gt_script.specs.declared.form.Form.{Form};
+ghost use Rattle.gt_session.specs.Sessions.{Session as Seen, IsPartition, new_session, forgotten, pass_in};
 ghost use Rattle.gt_session.specs.Courses.{course};
 ghost use Rattle.gt_session.specs.Calls.{Does, GivesUp, IsHeld, LeavesOthers};
 
-use crate::Parts;
+use crate::{Numbered, Parts};
 use gt_model::{Answer, Who};
 use gt_script::Form;
 use gt_stage::Stage;
@@ -12,41 +14,53 @@ use std::marker::Model;
 
 /// One session of a script: the transaction that it has open, if any, and what it has seen.
 #[derive(Drop)]
-pub struct Session<P: Parts> {
+pub struct Session<T: Numbered> {
     pub(crate) number: u8,
-    pub(crate) pass: Option<P::Pass>,
+    // the partition of the pass; any where nothing is open
+    pub(crate) partition: u8,
+    pub(crate) pass: Option<T>,
     pub(crate) stage: Stage,
-    pub(crate) seen: u64,
+    pub(crate) seen: [u64; 8],
 }
 
-impl<P: Parts> Model for Session<P> {
+impl<T: Numbered> Model for Session<T> {
     ghost use Rattle.std.specs.Option.{option_map};
-    ghost use Rattle.gt_session.specs.Sessions.{Session};
+    ghost use Rattle.gt_session.specs.Sessions.{Session, IsPartition};
 
     ghost Value = { Session };
 
-    ghost view = { λ s. record { number = s.number; «open» = option_map (λ pass. record { pin = P.number pass; stage = s.stage }) s.pass; seen = s.seen } };
+    ghost view = { λ s. record { number = s.number; «open» = option_map (λ pass. record { partition = s.partition; pin = T.number pass; stage = s.stage }) s.pass; seen = s.seen } };
+
+    ghost invariant = { λ s. IsPartition s.partition };
 }
 
-impl<P: Parts> Session<P> {
+impl<T: Numbered> Session<T> {
     /// A session that has nothing open and has seen nothing. It takes no memory.
-    pub fn new(alloc: Global, number: u8) -> Session<P>
+    pub fn new(alloc: Global, number: u8) -> Session<T>
         ensures { result ≡ new_session number }
     {
         Session {
             number,
+            partition: 1,
             pass: None,
             stage: Stage::new(alloc),
-            seen: 0,
+            seen: [0; 8],
         }
     }
 
     /// Does a line, and answers it. The forms are those that have a course.
-    pub fn request(&mut self, alloc: Global, parts: &mut P, line: u32, form: &Form) -> Answer
+    pub fn request<P: Parts<Pass = T>>(
+        &mut self,
+        alloc: Global,
+        parts: &mut P,
+        line: u32,
+        form: &Form,
+    ) -> Answer
         requires built { course self.old form.now ≢ None }
-        requires held { IsHeld (pin_in self.old) (P.live parts.old) }
-        ensures does { Does (P.did (record { session = self.old.number; line = line })) (P.next parts.old) self.old (course self.old form.now) (result, self.new) parts.old parts.new }
-        ensures passes { LeavesOthers (pin_in self.old) (pin_in self.new) (P.live parts.old) (P.live parts.new) }
+        requires held { IsHeld (pass_in self.old) (P.live parts.old) }
+        ensures does { Does P.did P.mapped (record { session = self.old.number; line = line }) self.old (course self.old form.now) (result, self.new) parts.old parts.new }
+        ensures aborts { form.now ≡ Form.Abort → IfErr result (λ why. why ≡ Refusal.NotOpen) }
+        ensures passes { LeavesOthers (pass_in self.old) (pass_in self.new) (P.live parts.old) (P.live parts.new) }
     {
         match form {
             Form::Create { path, near: None } => self.create(alloc, parts, line, path.as_slice()),
@@ -72,11 +86,11 @@ impl<P: Parts> Session<P> {
     }
 
     /// Gives up what is open, at the end of the input. It takes no memory.
-    pub fn end(&mut self, parts: &mut P)
-        requires held { IsHeld (pin_in self.old) (P.live parts.old) }
+    pub fn end<P: Parts<Pass = T>>(&mut self, parts: &mut P)
+        requires held { IsHeld (pass_in self.old) (P.live parts.old) }
         ensures session { self.new ≡ forgotten self.old }
-        ensures aborts { GivesUp (P.did (record { session = self.old.number; line = 0 })) self.old.open parts.old parts.new }
-        ensures passes { LeavesOthers (pin_in self.old) None (P.live parts.old) (P.live parts.new) }
+        ensures aborts { GivesUp P.did (record { session = self.old.number; line = 0 }) self.old.open parts.old parts.new }
+        ensures passes { LeavesOthers (pass_in self.old) None (P.live parts.old) (P.live parts.new) }
     {
         let who = Who {
             session: self.number,
@@ -85,7 +99,7 @@ impl<P: Parts> Session<P> {
         let Some(pass) = self.pass.take() else {
             return;
         };
-        let _ = parts.abort(who, pass);
+        let _ = parts.abort(self.partition, who, pass);
     }
 
     /// Drops what is open, before everything is mounted again. It takes no memory.

@@ -1,25 +1,25 @@
 //! What is put into the stage.
-ghost use Rattle.std.specs.Prelude.{◌≡◌, ℕ};
+ghost use Rattle.std.specs.Prelude.{◌≡◌, ℕ, None};
 ghost use Rattle.std.specs.List.{IsAmong};
-ghost use Rattle.gt_session.specs.Sessions.{Open, Session as Seen, pin_in};
+ghost use Rattle.gt_session.specs.Sessions.{Open, Session as Seen, pass_in};
 ghost use Rattle.gt_session.specs.Courses.{with_open, with_ref, with_old, alone, put, set, check, refusal_of, content_of};
 ghost use Rattle.gt_session.specs.Calls.{Takes, IsHeld};
 ghost use Rattle.gt_session.specs.Pieces.{IsAlone, TurnsStage, FindsOld, stage_refusal, open_with};
 
 use crate::values::old_in;
 use crate::words::{content_of, ref_of};
-use crate::{Parts, Session};
+use crate::{Numbered, Parts, Session};
 use gt_model::{Answer, Done, Refusal, Who};
 use gt_name::{Name, RefName};
 use gt_object::{Kind, ObjectError, Record};
 use gt_stage::{Stage, StageError};
 use std::alloc::Global;
 
-impl<P: Parts> Session<P> {
+impl<T: Numbered> Session<T> {
     /// Stages a record of the content that a word spells.
     pub(crate) fn put(&mut self, alloc: Global, kind: Kind, word: &[u8]) -> Answer
         ensures alone { IsAlone self.old (with_open self.old (λ o. alone (put self.old o kind (content_of word.now)))) (result, self.new) }
-        ensures pin { pin_in self.new ≡ pin_in self.old }
+        ensures pass { pass_in self.new ≡ pass_in self.old }
     {
         if self.pass.is_none() {
             return Err(Refusal::NotOpen);
@@ -31,7 +31,7 @@ impl<P: Parts> Session<P> {
     }
 
     /// Stages an update of a reference.
-    pub(crate) fn set(
+    pub(crate) fn set<P: Parts<Pass = T>>(
         &mut self,
         alloc: Global,
         parts: &mut P,
@@ -40,12 +40,12 @@ impl<P: Parts> Session<P> {
         old: Option<Name>,
         new: Name,
     ) -> Answer
-        requires held { IsHeld (pin_in self.old) (P.live parts.old) }
-        ensures takes { Takes (P.did (record { session = self.old.number; line = line })) (P.next parts.old) self.old (with_open self.old (λ o. with_ref self.old word.now (with_old self.old o word.now old (set self.old o word.now new)))) (result, self.new) parts.old parts.new }
+        requires held { IsHeld (pass_in self.old) (P.live parts.old) }
+        ensures takes { Takes P.did P.mapped (record { session = self.old.number; line = line }) self.old (with_open self.old (λ o. with_ref word.now (with_old self.old o word.now old (set self.old o word.now new)))) (result, self.new) parts.old parts.new }
         ensures live { P.live parts.new ≡ P.live parts.old }
-        ensures pin { pin_in self.new ≡ pin_in self.old }
+        ensures pass { pass_in self.new ≡ pass_in self.old }
     {
-        let Some(pass) = &self.pass else {
+        let Some(pass) = &mut self.pass else {
             return Err(Refusal::NotOpen);
         };
         let name = match ref_of(alloc, word) {
@@ -56,14 +56,23 @@ impl<P: Parts> Session<P> {
             session: self.number,
             line,
         };
-        match old_value(alloc, parts, who, pass, &self.stage, &name, old) {
+        match old_value(
+            alloc,
+            parts,
+            self.partition,
+            who,
+            pass,
+            &self.stage,
+            &name,
+            old,
+        ) {
             Ok(old) => put_update(&mut self.stage, name, old, new),
             Err(refusal) => Err(refusal),
         }
     }
 
     /// Stages a check of a reference.
-    pub(crate) fn verify(
+    pub(crate) fn verify<P: Parts<Pass = T>>(
         &mut self,
         alloc: Global,
         parts: &mut P,
@@ -71,12 +80,12 @@ impl<P: Parts> Session<P> {
         word: &[u8],
         old: Option<Name>,
     ) -> Answer
-        requires held { IsHeld (pin_in self.old) (P.live parts.old) }
-        ensures takes { Takes (P.did (record { session = self.old.number; line = line })) (P.next parts.old) self.old (with_open self.old (λ o. with_ref self.old word.now (with_old self.old o word.now old (check self.old o word.now)))) (result, self.new) parts.old parts.new }
+        requires held { IsHeld (pass_in self.old) (P.live parts.old) }
+        ensures takes { Takes P.did P.mapped (record { session = self.old.number; line = line }) self.old (with_open self.old (λ o. with_ref word.now (with_old self.old o word.now old (check self.old o word.now)))) (result, self.new) parts.old parts.new }
         ensures live { P.live parts.new ≡ P.live parts.old }
-        ensures pin { pin_in self.new ≡ pin_in self.old }
+        ensures pass { pass_in self.new ≡ pass_in self.old }
     {
-        let Some(pass) = &self.pass else {
+        let Some(pass) = &mut self.pass else {
             return Err(Refusal::NotOpen);
         };
         let name = match ref_of(alloc, word) {
@@ -87,7 +96,16 @@ impl<P: Parts> Session<P> {
             session: self.number,
             line,
         };
-        match old_value(alloc, parts, who, pass, &self.stage, &name, old) {
+        match old_value(
+            alloc,
+            parts,
+            self.partition,
+            who,
+            pass,
+            &self.stage,
+            &name,
+            old,
+        ) {
             Ok(old) => put_check(&mut self.stage, name, old),
             Err(refusal) => Err(refusal),
         }
@@ -99,14 +117,16 @@ impl<P: Parts> Session<P> {
 fn old_value<P: Parts>(
     alloc: Global,
     parts: &mut P,
+    partition: u8,
     who: Who,
-    pass: &P::Pass,
+    pass: &mut P::Pass,
     stage: &Stage,
     name: &RefName,
     given: Option<Name>,
 ) -> Result<Name, Refusal>
-    requires { IsAmong (P.live parts.old) (P.number pass.now) }
-    ensures finds { FindsOld (P.did who) (open_with (P.number pass.now) stage.now) name.now given result parts.old parts.new }
+    requires { IsAmong (P.live parts.old partition) (P.Pass.number pass.old) }
+    ensures finds { FindsOld (λ e answer. P.did partition who e answer None) (open_with partition (P.Pass.number pass.old) stage.now) name.now given result parts.old parts.new }
+    ensures pass { P.Pass.number pass.new ≡ P.Pass.number pass.old }
     ensures live { P.live parts.new ≡ P.live parts.old }
 {
     if let Some(old) = given {
@@ -115,7 +135,7 @@ fn old_value<P: Parts>(
     if let Some(own) = stage.own_ref(name) {
         return Ok(own);
     }
-    match parts.get_ref(alloc, who, pass, name) {
+    match parts.get_ref(alloc, partition, who, pass, name) {
         Ok(done) => Ok(old_in(&done)),
         Err(refusal) => Err(refusal),
     }

@@ -1,10 +1,12 @@
 //! The sessions of a script together.
-ghost use Rattle.std.specs.Prelude.{◌≡◌, ◌≤◌, true, map, IfOk};
+ghost use Rattle.std.specs.Prelude.{◌≡◌, ◌≤◌, true, map, IfOk, IfErr};
+ghost use Rattle.gt_model.specs.declared.refusal.Refusal.{Refusal};
+ghost use Rattle.gt_script.specs.declared.form.Form.{Form};
 ghost use Rattle.gt_session.specs.Sessions.{forgotten};
 ghost use Rattle.gt_session.specs.Courses.{has_course};
 ghost use Rattle.gt_session.specs.Together.{sessions_from, Requests, GiveUp, AreHeld};
 
-use crate::{Parts, Session};
+use crate::{Numbered, Parts, Session};
 use gt_list::NoMemory;
 use gt_model::Answer;
 use gt_script::Form;
@@ -13,11 +15,11 @@ use std::marker::Model;
 
 /// The sessions 1 to 128 of a script.
 #[derive(Drop)]
-pub struct Sessions<P: Parts> {
-    all: Vec<Session<P>>,
+pub struct Sessions<T: Numbered> {
+    all: Vec<Session<T>>,
 }
 
-impl<P: Parts> Model for Sessions<P> {
+impl<T: Numbered> Model for Sessions<T> {
     ghost use Rattle.std.specs.Prelude.{List};
     ghost use Rattle.gt_session.specs.Sessions.{Session};
 
@@ -30,9 +32,9 @@ impl<P: Parts> Model for Sessions<P> {
     ghost invariant = { λ s. AreNumbered s.all.items };
 }
 
-impl<P: Parts> Sessions<P> {
+impl<T: Numbered> Sessions<T> {
     /// The sessions of a script that begins: none has anything open.
-    pub fn new(alloc: Global) -> Result<Sessions<P>, NoMemory>
+    pub fn new(alloc: Global) -> Result<Sessions<T>, NoMemory>
         ensures { IfOk result (λ s. s ≡ sessions_from 1 128) }
     {
         match new_sessions(alloc) {
@@ -42,7 +44,7 @@ impl<P: Parts> Sessions<P> {
     }
 
     /// Does a line of a session, and answers it. The forms are those that have a course.
-    pub fn request(
+    pub fn request<P: Parts<Pass = T>>(
         &mut self,
         alloc: Global,
         parts: &mut P,
@@ -54,7 +56,8 @@ impl<P: Parts> Sessions<P> {
         requires most { session ≤ 128 }
         requires built { has_course form.now ≡ true }
         requires held { AreHeld self.old (P.live parts.old) }
-        ensures does { Requests P.did (P.next parts.old) line session form.now result self.old self.new parts.old parts.new }
+        ensures does { Requests P.did P.mapped line session form.now result self.old self.new parts.old parts.new }
+        ensures aborts { form.now ≡ Form.Abort → IfErr result (λ why. why ≡ Refusal.NotOpen) }
         ensures held { AreHeld self.new (P.live parts.new) }
     {
         self.all[session as usize - 1].request(alloc, parts, line, form)
@@ -68,7 +71,7 @@ impl<P: Parts> Sessions<P> {
     }
 
     /// Gives up what is open, at the end of the input. It takes no memory.
-    pub fn end_all(&mut self, parts: &mut P)
+    pub fn end_all<P: Parts<Pass = T>>(&mut self, parts: &mut P)
         requires held { AreHeld self.old (P.live parts.old) }
         ensures ends { GiveUp P.did self.old parts.old parts.new }
         ensures sessions { self.new ≡ map forgotten self.old }
@@ -77,7 +80,7 @@ impl<P: Parts> Sessions<P> {
     }
 }
 
-fn new_sessions<P: Parts>(alloc: Global) -> Result<Vec<Session<P>>, NoMemory>
+fn new_sessions<T: Numbered>(alloc: Global) -> Result<Vec<Session<T>>, NoMemory>
     ensures { IfOk result (λ all. all.items ≡ sessions_from 1 128) }
 {
     let mut all = Vec::new(alloc);
@@ -89,7 +92,7 @@ fn new_sessions<P: Parts>(alloc: Global) -> Result<Vec<Session<P>>, NoMemory>
     Ok(all)
 }
 
-fn forget_each<P: Parts>(all: &mut Vec<Session<P>>)
+fn forget_each<T: Numbered>(all: &mut Vec<Session<T>>)
     ensures { all.new.items ≡ map forgotten all.old.items }
 {
     for i in 0..all.len() {
@@ -97,7 +100,7 @@ fn forget_each<P: Parts>(all: &mut Vec<Session<P>>)
     }
 }
 
-fn end_each<P: Parts>(all: &mut Vec<Session<P>>, parts: &mut P)
+fn end_each<T: Numbered, P: Parts<Pass = T>>(all: &mut Vec<Session<T>>, parts: &mut P)
     requires held { AreHeld all.old.items (P.live parts.old) }
     ensures ends { GiveUp P.did all.old.items parts.old parts.new }
     ensures sessions { all.new.items ≡ map forgotten all.old.items }

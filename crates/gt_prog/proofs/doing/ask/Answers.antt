@@ -10,10 +10,10 @@ returns-clause-did g c =
     goes_asked g.D.Disk.tells g.D.Disk.view c.args.local.now.limits g.D.Disk.fault_count g.D.Disk.call_count line c.args.sessions.now c.request.new.self c.args.local.now c.request.new.parts refl c.requires.course c.request.ensures.does
 
 pub returns-clause-limits : goal.returns-clause-limits
-returns-clause-limits g c = asked_limits g.D.Disk.tells g.D.Disk.view g.D.Disk.fault_count g.D.Disk.call_count _ _ _ _ _ _ _ _ _ c.request.ensures.does
+returns-clause-limits g c = asked_limits g.D.Disk.tells g.D.Disk.view g.D.Disk.fault_count g.D.Disk.call_count _ _ _ _ _ _ _ _ c.request.ensures.does
 
 pub returns-clause-later : goal.returns-clause-later
-returns-clause-later g c = asked_later g.D.Disk.tells g.D.Disk.view g.D.Disk.fault_count g.D.Disk.call_count _ _ _ _ _ _ _ _ _ c.request.ensures.does
+returns-clause-later g c = asked_later g.D.Disk.tells g.D.Disk.view g.D.Disk.fault_count g.D.Disk.call_count _ _ _ _ _ _ _ _ c.request.ensures.does
 
 pub returns-clause-fault : goal.returns-clause-fault
-returns-clause-fault g c = asked_fault g.D.Disk.tells g.D.Disk.view g.D.Disk.fault_count g.D.Disk.call_count _ _ _ _ _ _ _ _ _ c.request.ensures.does
+returns-clause-fault g c = asked_fault g.D.Disk.tells g.D.Disk.view g.D.Disk.fault_count g.D.Disk.call_count _ _ _ _ _ _ _ _ c.request.ensures.does

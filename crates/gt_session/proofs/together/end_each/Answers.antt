@@ -1,5 +1,5 @@
 use Rattle.std.proofs.Common.{◌≡◌, ◌<◌, ◌≤◌, ℕ, length, Option, Some, slice_get, sym, ap, subst, ◌∙◌, refl, arith, List}
-use Rattle.gt_session.specs.Sessions.{Session, pin_in}
+use Rattle.gt_session.specs.Sessions.{Session, pass_in}
 use Rattle.gt_session.specs.Calls.{LeavesOthers}
 use Rattle.gt_session.proofs.TogetherLaws.{get_at, length_forgotten, forgotten_here, forgotten_step, forgotten_all, held_set, gave_up_more}
 use Rattle.gt_session.proofs.together.end_each.Goals as goal
@@ -13,8 +13,8 @@ loop-i-preserved g c =
     let here : slice_get c.loop-i.all.items i ≡ Some s = get_at c.loop-i.all.items i s within c.index_mut.ensures.value in
     let first : slice_get olds i ≡ Some s = sym (ap (λ (l : List Session). slice_get l i) c.loop-i.invariant.forgotten ∙ forgotten_here i olds) ∙ here in
     let live = g.P.Parts.live c.loop-i.parts in
-    let leaves : LeavesOthers (pin_in s) (pin_in c.end.new.self) live (g.P.Parts.live c.end.new.parts) =
-    subst (λ (holds : Option ℕ). LeavesOthers (pin_in s) holds live (g.P.Parts.live c.end.new.parts)) (ap (λ (t : Session). pin_in t) (sym c.end.ensures.session)) c.end.ensures.passes in
+    let leaves : LeavesOthers (pass_in s) (pass_in c.end.new.self) live (g.P.Parts.live c.end.new.parts) =
+    subst (λ (holds : Option (ℕ × ℕ)). LeavesOthers (pass_in s) holds live (g.P.Parts.live c.end.new.parts)) (ap (λ (t : Session). pass_in t) (sym c.end.ensures.session)) c.end.ensures.passes in
     record {
       forgotten = forgotten_step i olds c.loop-i.all.items _ s c.end.new.self c.loop-i.invariant.forgotten here c.end.ensures.session refl;
       held = held_set c.loop-i.all.items i s c.end.new.self live (g.P.Parts.live c.end.new.parts) c.loop-i.invariant.held here leaves;
