@@ -1,5 +1,5 @@
 -- What a line that a session does, and the end of all sessions, keep of the partition.
-use Rattle.std.proofs.Common.{◌≡◌, ℕ, ◌≤◌, Bool, IsTrue, List, Result, ap, arith}
+use Rattle.std.proofs.Common.{◌≡◌, ℕ, ◌≤◌, Bool, IsTrue, List, Result, refl, ap, arith}
 use Rattle.gt_disk.specs.Files.{View, Rose}
 use Rattle.gt_model.specs.declared.done.Done.{Done}
 use Rattle.gt_model.specs.declared.refusal.Refusal.{Refusal}
@@ -22,7 +22,7 @@ module _ {D : Type 0} (tells : Bool) (view : D → View) (fault_count call_count
         answer olds news h
 
     pub asked_fault : IsTrue (is_faulty answer) → Rose (fault_count old.disk) (fault_count new.disk)
-    asked_fault faulty = requests_rises (LocalDid tells view fault_count call_count) old new (Rose (fault_count old.disk) (fault_count new.disk)) (λ partition who e a given call is. call.2.cause.fault is) number session form answer olds news h faulty
+    asked_fault faulty = requests_rises (LocalDid tells view fault_count call_count) old new (Rose (fault_count old.disk) (fault_count new.disk)) is_faulty (λ n a within. within.sure) refl (λ partition who e a given call is. call.2.cause.fault is) number session form answer olds news h faulty
 
   pub ended_later : (ss : List Session) (old new : Shown D) → GiveUp (LocalDid tells view fault_count call_count) ss old new → fault_count old.disk ≤ fault_count new.disk
   ended_later ss old new h =

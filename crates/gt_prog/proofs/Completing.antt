@@ -7,7 +7,8 @@ use Rattle.gt_script.specs.declared.request.Request.{Request}
 use Rattle.gt_prog.specs.declared.status.Status.{Status}
 use Rattle.gt_prog.specs.declared.status.Status.TheVariants.{Done, Usage, ReadFault, WriteFault, DiskFault, Damaged, Memory, BadInput, NotYet}
 use Rattle.gt_prog.specs.Script.{Fault, script_of}
-use Rattle.gt_prog.specs.Statuses.{AreGood, Stays, RoseEither, ReadsInput, WorkEnds, input_limit}
+use Rattle.gt_prog.specs.Lines.{Stays}
+use Rattle.gt_prog.specs.Statuses.{AreGood, RoseEither, ReadsInput, WorkEnds, input_limit}
 
 -- It is done, or memory was wanted.
 abbrev pub Completes : Status → Type 0

@@ -1,9 +1,9 @@
 -- The lines that a failing disk answered, one after the other.
-use Rattle.std.proofs.Common.{◌≡◌, ◌⊎◌, inl, inr, ⊎_elim, ℕ, ◌+◌, ◌-◌, ◌^◌, ◌≤◌, min, Bool, true, false, IsTrue, cond, List, [], ◌∷◌, ◌++◌, refl, sym, subst, arith}
+use Rattle.std.proofs.Common.{◌≡◌, ◌⊎◌, inl, inr, ⊎_elim, ℕ, zero, suc, ◌+◌, ◌-◌, ◌^◌, ◌≤◌, min, Bool, true, false, IsTrue, cond, List, [], ◌∷◌, ◌++◌, refl, sym, subst, arith}
 use Rattle.std.proofs.lemmas.Bool.{cases_lt}
 use Rattle.gt_disk.specs.Files.{Rose}
 use Rattle.gt_model.specs.Machine.{is_faulty}
-use Rattle.gt_prog.specs.Lines.{Line, faulty, Counted}
+use Rattle.gt_prog.specs.Lines.{Line, faulty, Stays, Counted}
 
 faulty-push : (lines : List Line) (line : Line) → faulty (lines ++ line ∷ []) ≡ faulty lines + cond (is_faulty line.answer) 1 0
 faulty-push [] line = omega arith
@@ -34,3 +34,12 @@ counted_besides first before now lines later rose (inl le) = ⊎_elim (λ lt. in
 -- counted from before that
 pub counted_earlier : (besides first before now : ℕ) (lines : List Line) → first ≤ before → Counted besides before now lines → Counted besides first now lines
 counted_earlier besides first before now lines later counted = ⊎_elim (λ le. inl (omega (arith, le, later))) (λ full. inr full) counted
+
+-- where the count stays, no line was answered by a fault
+pub none_faulty : (besides before now : ℕ) (lines : List Line) → Counted besides before now lines → Stays before now → faulty lines ≡ 0
+none_faulty besides before now lines counted stays = by (faulty lines) refl counted
+  where
+    by : (n : ℕ) → faulty lines ≡ n → (before + n + besides ≤ now) ⊎ (2 ^ 64 - 1 ≤ now) → n ≡ 0
+    by zero is c = refl
+    by (suc n) is (inl le) = absurd (stays (let rose : min (before + 1) (2 ^ 64 - 1) ≤ now = omega (arith, le) in rose))
+    by (suc n) is (inr full) = absurd (stays (let rose : min (before + 1) (2 ^ 64 - 1) ≤ now = omega (arith, full) in rose))

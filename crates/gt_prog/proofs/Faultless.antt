@@ -19,6 +19,7 @@ use Rattle.gt_model.specs.Machine.{is_faulty, is_fault}
 use Rattle.gt_script.specs.declared.form.Form.{Form}
 use Rattle.gt_script.specs.declared.form.Form.TheVariants as line
 use Rattle.gt_stage.specs.Staging.{Holding, own_ref, own_record, is_over_refs, is_over_bytes, staged_set, staged_check, staged_put}
+use Rattle.gt_prog.specs.Lines.{names_damage}
 use Rattle.gt_session.specs.Sessions.{Open, Session, seen_of}
 use Rattle.gt_session.specs.Courses.{Turned, Course, refuses, alone, finds, asks, reads, assign, ask, course, with_path, with_ref, with_open, unless_open, with_old, old_in, staged, put, put_record, set, check, get, cat, value_of, content_of, refusal_of, list_in}
 use Rattle.gt_session.specs.Calls.{Takes, Makes, Does, GivesUp}
@@ -28,9 +29,10 @@ use Rattle.gt_prog.proofs.One.{found_one}
 
 -- ---- a session's own answers
 
--- It blames no disk, and names no position past this one.
+-- It blames no disk, names no damage, and no position past this one.
 pub record IsWithin (n : ℕ) (answer : Result Done Refusal) : Type 0 where
   pub sure : is_faulty answer ≡ false
+  pub whole : names_damage answer ≡ false
   pub named : position answer ≤ n
 
 -- no answer of the session's own comes of a failing disk, and none names a position but that of what was read
@@ -41,14 +43,14 @@ IsFaultless (finds path e event) = Unit {0}
 IsFaultless (asks partition e) = Unit {0}
 IsFaultless (reads partition e make) = (d : Done) → IsWithin (done_position d) (make d).0
 
-refusal_within : (r : Refusal) → is_fault r ≡ false → IsWithin 0 (Err r)
-refusal_within r is = record { sure = is; named = omega arith }
+refusal_within : (r : Refusal) → is_fault r ≡ false → names_damage (Err r) ≡ false → IsWithin 0 (Err r)
+refusal_within r is whole = record { sure = is; whole = whole; named = omega arith }
 
 done_within : (n : ℕ) (d : Done) → done_position d ≤ n → IsWithin n (Ok d)
-done_within n d le = record { sure = refl; named = le }
+done_within n d le = record { sure = refl; whole = refl; named = le }
 
 within_more : (n : ℕ) (a : Result Done Refusal) → IsWithin 0 a → IsWithin n a
-within_more n a w = record { sure = w.sure; named = omega (arith, w.named) }
+within_more n a w = record { sure = w.sure; whole = w.whole; named = omega (arith, w.named) }
 
 abbrev IsEachFaultless : Option Course → Type 0
 IsEachFaultless None = Unit {0}
@@ -59,21 +61,21 @@ path_faultless text c ok = by (bad_path text)
   where
     by : (at : Option ℕ) → IsFaultless (elim at [ None ↦ c | Some p ↦ refuses (BadPath p) ])
     by None = ok
-    by (Some p) = refusal_within (BadPath p) refl
+    by (Some p) = refusal_within (BadPath p) refl refl
 
 ref_faultless : (text : List ℕ) (c : Course) → IsFaultless c → IsFaultless (with_ref text c)
 ref_faultless text c ok = by (bad_ref text)
   where
     by : (bad : Option (ℕ × ℕ)) → IsFaultless (elim bad [ None ↦ c | Some b ↦ refuses (BadRef b.0 b.1) ])
     by None = ok
-    by (Some b) = refusal_within (BadRef b.0 b.1) refl
+    by (Some b) = refusal_within (BadRef b.0 b.1) refl refl
 
 module _ (s : Session) where
   open_faultless : (make : Open → Course) → ((o : Open) → IsFaultless (make o)) → IsFaultless (with_open s make)
   open_faultless make ok = by s.open
     where
       by : (o : Option Open) → IsFaultless (elim o [ None ↦ refuses NotOpen | Some x ↦ make x ])
-      by None = refusal_within NotOpen refl
+      by None = refusal_within NotOpen refl refl
       by (Some x) = ok x
 
   shut_faultless : (c : Course) → IsFaultless c → IsFaultless (unless_open s c)
@@ -81,10 +83,10 @@ module _ (s : Session) where
     where
       by : (o : Option Open) → IsFaultless (elim o [ None ↦ c | Some x ↦ refuses AlreadyOpen ])
       by None = ok
-      by (Some x) = refusal_within AlreadyOpen refl
+      by (Some x) = refusal_within AlreadyOpen refl refl
 
   staged_faultless : (o : Open) (over : Bool) (stage : Holding) (d : Done) → done_position d ≡ 0 → IsWithin 0 (staged s o over stage d).0
-  staged_faultless o true stage d none = refusal_within StageFull refl
+  staged_faultless o true stage d none = refusal_within StageFull refl refl
   staged_faultless o false stage d none = done_within 0 d (omega (arith, none))
 
   refusal_faultless : (e : ObjectError) → is_fault (refusal_of e) ≡ false
@@ -92,12 +94,17 @@ module _ (s : Session) where
   refusal_faultless (object.BadObject at) = refl
   refusal_faultless object.Memory = refl
 
+  refusal_whole : (e : ObjectError) → names_damage (Err (refusal_of e)) ≡ false
+  refusal_whole object.TooLarge = refl
+  refusal_whole (object.BadObject at) = refl
+  refusal_whole object.Memory = refl
+
   put_faultless : (o : Open) (kind : Kind) (content : List ℕ) → IsWithin 0 (put s o kind content).0
   put_faultless o kind content = by (why_not_new kind content)
     where
       by : (why : Option ObjectError) → (let turned : Turned = elim why [ None ↦ put_record s o (header kind (length content) ++ content) | Some w ↦ (Err (refusal_of w), s) ] in IsWithin 0 turned.0)
       by None = staged_faultless o (is_over_bytes o.stage (header kind (length content) ++ content)) (staged_put o.stage (header kind (length content) ++ content)) _ refl
-      by (Some w) = refusal_within (refusal_of w) (refusal_faultless w)
+      by (Some w) = refusal_within (refusal_of w) (refusal_faultless w) (refusal_whole w)
 
   old_faultless : (o : Open) (name : List ℕ) (old : Option (List ℕ)) (turned : List ℕ → Turned) → ((v : List ℕ) → IsWithin 0 (turned v).0) → IsFaultless (with_old s o name old turned)
   old_faultless o name (Some old) turned ok = ok old
@@ -122,7 +129,7 @@ module _ (s : Session) where
       by None = tt
 
   list_faultless : (o : Open) (prefix : List ℕ) (d : Done) → IsWithin (done_position d) (list_in s o prefix d).0
-  list_faultless o prefix (done.Refs list) = record { sure = refl; named = omega arith }
+  list_faultless o prefix (done.Refs list) = record { sure = refl; whole = refl; named = omega arith }
   list_faultless o prefix d = done_within (done_position d) d (omega arith)
 
   course_faultless : (form : Form) → IsEachFaultless (course s form)
@@ -176,33 +183,33 @@ give_up_keeps {P = P} Did Keeps same join call (s ∷ ss) old new h = join old h
     one None e = subst (λ (p : P). Keeps old p) (sym e) (same old)
     one (Some o) e = call o.partition (record { session = s.number; line = 0 }) (event.Abort o.pin) (Ok done.Aborted) None old h.0 e
 
--- ---- an answer that blames the disk comes of a call
+-- ---- an answer that no session gives by itself comes of a call
 
-module _ {P : Type 0} (Did : ℕ → Who → Event → Result Done Refusal → Option ℕ → P → P → Type 0) (old new : P) (Rises : Type 0) (call : (partition : ℕ) (who : Who) (e : Event) (a : Result Done Refusal) (given : Option ℕ) → Did partition who e a given old new → IsTrue (is_faulty a) → Rises) where
-  not_faulty : (a b : Result Done Refusal) → a ≡ b → is_faulty b ≡ false → IsTrue (is_faulty a) → Rises
-  not_faulty a b same sure is = absurd (cc (ap is_faulty same, sure, is))
+module _ {P : Type 0} (Did : ℕ → Who → Event → Result Done Refusal → Option ℕ → P → P → Type 0) (old new : P) (Rises : Type 0) (blames : Result Done Refusal → Bool) (own : (n : ℕ) (a : Result Done Refusal) → IsWithin n a → blames a ≡ false) (wants : blames (Err Memory) ≡ false) (call : (partition : ℕ) (who : Who) (e : Event) (a : Result Done Refusal) (given : Option ℕ) → Did partition who e a given old new → IsTrue (blames a) → Rises) where
+  not_blamed : (a b : Result Done Refusal) → a ≡ b → blames b ≡ false → IsTrue (blames a) → Rises
+  not_blamed a b same sure is = absurd (cc (ap blames same, sure, is))
 
-  makes_rises : (partition : ℕ) (who : Who) (e : Event) (s : Session) (make : Done → Turned) (a : Result Done Refusal) (turned : Turned) → ((d : Done) → IsWithin (done_position d) (make d).0) → Did partition who e a None old new → Makes Did Mapped who s make a turned → IsTrue (is_faulty turned.0) → Rises
-  makes_rises partition who e s make (Ok d) turned ok did (inl is) faulty = not_faulty turned.0 (make d).0 (ap (λ (t : Turned). t.0) is) (ok d).sure faulty
-  makes_rises partition who e s make (Ok d) turned ok did (inr is) faulty = not_faulty turned.0 (Err Memory) (ap (λ (t : Turned). t.0) is) refl faulty
-  makes_rises partition who e s make (Err refusal) turned ok did is faulty = call partition who e (Err refusal) None did (subst (λ (t : Turned). IsTrue (is_faulty t.0)) is faulty)
+  makes_rises : (partition : ℕ) (who : Who) (e : Event) (s : Session) (make : Done → Turned) (a : Result Done Refusal) (turned : Turned) → ((d : Done) → IsWithin (done_position d) (make d).0) → Did partition who e a None old new → Makes Did Mapped who s make a turned → IsTrue (blames turned.0) → Rises
+  makes_rises partition who e s make (Ok d) turned ok did (inl is) faulty = not_blamed turned.0 (make d).0 (ap (λ (t : Turned). t.0) is) (own (done_position d) (make d).0 (ok d)) faulty
+  makes_rises partition who e s make (Ok d) turned ok did (inr is) faulty = not_blamed turned.0 (Err Memory) (ap (λ (t : Turned). t.0) is) wants faulty
+  makes_rises partition who e s make (Err refusal) turned ok did is faulty = call partition who e (Err refusal) None did (subst (λ (t : Turned). IsTrue (blames t.0)) is faulty)
 
-  takes_rises : (who : Who) (s : Session) (c : Course) (turned : Turned) → IsFaultless c → Takes Did Mapped who s c turned old new → IsTrue (is_faulty turned.0) → Rises
-  takes_rises who s (refuses refusal) turned ok h faulty = not_faulty turned.0 (Err refusal) (ap (λ (t : Turned). t.0) h.0) ok.sure faulty
-  takes_rises who s (alone answered) turned ok (inl h) faulty = not_faulty turned.0 answered.0 (ap (λ (t : Turned). t.0) h.0) ok.sure faulty
-  takes_rises who s (alone answered) turned ok (inr h) faulty = not_faulty turned.0 (Err Memory) (ap (λ (t : Turned). t.0) h.0) refl faulty
+  takes_rises : (who : Who) (s : Session) (c : Course) (turned : Turned) → IsFaultless c → Takes Did Mapped who s c turned old new → IsTrue (blames turned.0) → Rises
+  takes_rises who s (refuses refusal) turned ok h faulty = not_blamed turned.0 (Err refusal) (ap (λ (t : Turned). t.0) h.0) (own 0 (Err refusal) ok) faulty
+  takes_rises who s (alone answered) turned ok (inl h) faulty = not_blamed turned.0 answered.0 (ap (λ (t : Turned). t.0) h.0) (own 0 answered.0 ok) faulty
+  takes_rises who s (alone answered) turned ok (inr h) faulty = not_blamed turned.0 (Err Memory) (ap (λ (t : Turned). t.0) h.0) wants faulty
   takes_rises who s (finds path e event) turned ok (inl h) faulty = let a = found_one Did who s path e event h.1 turned old h.0 new h.2 h.3 in call 1 who (event 1) turned.0 a.0 a.2 faulty
-  takes_rises who s (finds path e event) turned ok (inr h) faulty = not_faulty turned.0 (Err Memory) (ap (λ (t : Turned). t.0) h.0) refl faulty
+  takes_rises who s (finds path e event) turned ok (inr h) faulty = not_blamed turned.0 (Err Memory) (ap (λ (t : Turned). t.0) h.0) wants faulty
   takes_rises who s (asks partition e) turned ok (inl h) faulty = call partition who e turned.0 h.0 h.2 faulty
-  takes_rises who s (asks partition e) turned ok (inr h) faulty = not_faulty turned.0 (Err Memory) (ap (λ (t : Turned). t.0) h.1.0) refl faulty
+  takes_rises who s (asks partition e) turned ok (inr h) faulty = not_blamed turned.0 (Err Memory) (ap (λ (t : Turned). t.0) h.1.0) wants faulty
   takes_rises who s (reads partition e make) turned ok (inl h) faulty = makes_rises partition who e s make h.0 turned ok h.1 h.2 faulty
-  takes_rises who s (reads partition e make) turned ok (inr h) faulty = not_faulty turned.0 (Err Memory) (ap (λ (t : Turned). t.0) h.0) refl faulty
+  takes_rises who s (reads partition e make) turned ok (inr h) faulty = not_blamed turned.0 (Err Memory) (ap (λ (t : Turned). t.0) h.0) wants faulty
 
-  does_rises : (who : Who) (s : Session) (c : Option Course) (turned : Turned) → IsEachFaultless c → Does Did Mapped who s c turned old new → IsTrue (is_faulty turned.0) → Rises
+  does_rises : (who : Who) (s : Session) (c : Option Course) (turned : Turned) → IsEachFaultless c → Does Did Mapped who s c turned old new → IsTrue (blames turned.0) → Rises
   does_rises who s None turned ok h faulty = absurd h
   does_rises who s (Some c) turned ok h faulty = takes_rises who s c turned ok h faulty
 
-  pub requests_rises : (number session : ℕ) (form : Form) (answer : Result Done Refusal) (olds news : List Session) → Requests Did Mapped number session form answer olds news old new → IsTrue (is_faulty answer) → Rises
+  pub requests_rises : (number session : ℕ) (form : Form) (answer : Result Done Refusal) (olds news : List Session) → Requests Did Mapped number session form answer olds news old new → IsTrue (blames answer) → Rises
   requests_rises number session form answer olds news h faulty =
       does_rises (record { session = session; line = number }) h.before (course h.before form) (answer, h.after) (course_faultless h.before form) h.does faulty
 

@@ -10,5 +10,7 @@ pub mod Counting
 pub mod Faultless
 pub mod Asking
 pub mod Passes
+pub mod Whole
+pub mod Acting
 pub mod PlaySteps
 pub mod Ends

@@ -11,7 +11,7 @@ use Rattle.gt_model.specs.declared.done.Done.{Done}
 use Rattle.gt_model.specs.declared.done.Done.TheVariants.{Restarted}
 use Rattle.gt_model.specs.declared.limits.Limits.{Limits}
 use Rattle.gt_model.specs.declared.refusal.Refusal.{Refusal}
-use Rattle.gt_model.specs.Machine.{State, Recovered, Settles, opening, front, is_faulty}
+use Rattle.gt_model.specs.Machine.{State, Recovered, Settles, opening, unapplied, front, is_faulty}
 use Rattle.gt_model.specs.Histories.{Happening, last_state}
 use Rattle.gt_outside.specs.Written.{AppendsAll, AppendsFront}
 use Rattle.gt_base.specs.Recovery.{recover}
@@ -34,11 +34,14 @@ use Rattle.gt_prog.specs.Lines.{Line, Past, Stand, past_of, standing, from_here,
 use Rattle.gt_prog.specs.declared.playing.PlayCause.{PlayCause}
 use Rattle.gt_prog.specs.declared.playing.PlayCause.TheVariants.{Write, Device, Damaged, Memory}
 use Rattle.gt_prog.specs.Played.{Goes, DidOne, IsWhole, Played, PlayedWhole, IsAtRestart, EndsAt, own_faults, PlayedPart, Went}
+use Rattle.gt_prog.specs.AnyDisk.{Footing, footing, running_of, ActedOne, AreActed}
 use Rattle.gt_prog.specs.Replay.{IsOpened, Worked, WorkedPart, Replayed, ReplayedPart}
 use Rattle.gt_prog.proofs.Framing.{lines_over, end_over, lines_then, course_line}
 use Rattle.gt_prog.proofs.Acknowledged.{begins, still_named, lines_named, end_named, answers_kept}
 use Rattle.gt_prog.proofs.Calls.{told_as, requests_went, give_up_went}
-use Rattle.gt_prog.proofs.Counting.{counted_none, counted_more, counted_later, counted_besides, counted_earlier}
+use Rattle.gt_prog.proofs.Acting.{acted_more, acted_lines, acted_whole, acts_ended}
+use Rattle.gt_prog.proofs.Whole.{whole_lines}
+use Rattle.gt_prog.proofs.Counting.{none_faulty, counted_none, counted_more, counted_later, counted_besides, counted_earlier}
 
 -- ---- bytes
 
@@ -171,12 +174,15 @@ module _ {D : Type 0} (tells : Bool) (view : D → View) (fault_count : D → �
     asked_part k lines asked = sym (take-append-drop k (numbered 1 requests)) ∙ ap (λ (l : List (ℕ × Request)). l ++ drop k (numbered 1 requests)) (take-numbered k 1 requests ∙ sym asked)
 
     module _ (number : ℕ) (number_is : number ≡ i + 1) (mid last : List Session) (p q : Shown D) (kept : p.limits ≡ o.limits) (reply : Result Done Refusal) (w u v : Option (List ℕ)) (done : Played tells view fault_count (take i requests) mid o p w u)
-        (one : DidOne tells view p.limits number request reply mid last p q) (later : fault_count p.disk ≤ fault_count q.disk) (rose : IsTrue (is_faulty reply) → Rose (fault_count p.disk) (fault_count q.disk)) where
+        (one : DidOne tells view p.limits number request reply mid last p q) (later : fault_count p.disk ≤ fault_count q.disk) (rose : IsTrue (is_faulty reply) → Rose (fault_count p.disk) (fault_count q.disk)) (this : ActedOne number request reply mid last p q) where
       abbrev line : Line
       line = record { number = number; request = request; answer = reply }
 
       all_go : Goes tells view o.limits (done.lines ++ line ∷ []) new_sessions last o q
       all_go = goes_then tells view o.limits new_sessions mid last o p q done.lines (line ∷ []) done.goes (subst (λ (l : Limits). DidOne tells view l number request reply mid last p q) kept one)
+
+      all_acted : AreActed (done.lines ++ line ∷ []) (footing new_sessions (running_of o)) (footing last (running_of q))
+      all_acted = acted_more done.lines line (footing new_sessions (running_of o)) (footing mid (running_of p)) (footing last (running_of q)) done.acted this
 
       counted_line : Counted 0 (fault_count o.disk) (fault_count q.disk) (done.lines ++ line ∷ [])
       counted_line = counted_more (fault_count o.disk) (fault_count p.disk) (fault_count q.disk) done.lines line later rose done.counted
@@ -190,6 +196,7 @@ module _ {D : Type 0} (tells : Bool) (view : D → View) (fault_count : D → �
             flat_map-append printed done.lines (line ∷ []) ∙ ap (λ (l : List ℕ). flat_map printed done.lines ++ l) (append-nil (printed_answer reply)) in
             let P : List ℕ → Type 0 = λ l. AppendsAll w v l in subst P (sym text) (appends_then w u v (flat_map printed done.lines) (printed_answer reply) done.bytes bytes);
         counted = counted_line;
+        acted = all_acted;
         goes = all_go;
       }
 
@@ -207,6 +214,7 @@ module _ {D : Type 0} (tells : Bool) (view : D → View) (fault_count : D → �
         uncut = uncut;
         ends = ends_writing cause device damaged line (drop (i + 1) (numbered 1 requests));
         counted = subst (λ (x : D). Counted (own_faults cause) (fault_count o.disk) (fault_count x) (done.lines ++ line ∷ [])) (sym same) (no_faults cause device (fault_count o.disk) (fault_count q.disk) (done.lines ++ line ∷ []) counted_line);
+        acted = (footing last (running_of q), all_acted);
         went = subst (λ (x : D). IsTrue tells → (start : State) (begin : ℕ) (history : List Happening) → HasRun view start begin history o → Went view start begin history o (view x) (done.lines ++ line ∷ [])) (sym same) (went_of last o q (done.lines ++ line ∷ []) all_go);
       }
 
@@ -235,6 +243,7 @@ module _ {D : Type 0} (tells : Bool) (view : D → View) (fault_count : D → �
         bytes = done.bytes;
         front = front_nil u;
         uncut = λ is. refl;
+        acted = (footing mid (running_of p), subst (λ (l : List Line). AreActed l (footing new_sessions (running_of o)) (footing mid (running_of p))) (sym (append-nil done.lines)) done.acted);
         ends = ends_closing cause write (record { none = refl; number = number; request = request; more = behind; next = refl; restart = restart });
         counted = subst (λ (x : D). Counted (own_faults cause) (fault_count o.disk) (fault_count x) (done.lines ++ [])) (sym same)
             (subst (λ (l : List Line). Counted (own_faults cause) (fault_count o.disk) (fault_count e) l) (sym (append-nil done.lines)) (closing_faults cause write (fault_count o.disk) (fault_count p.disk) (fault_count e) done.lines later rose done.counted));
@@ -243,7 +252,7 @@ module _ {D : Type 0} (tells : Bool) (view : D → View) (fault_count : D → �
       }
 
   pub played_none : (ss : List Session) (p : Shown D) (requests : List Request) (w : Option (List ℕ)) → ss ≡ new_sessions → Played tells view fault_count (take 0 requests) ss p p w w
-  played_none ss p requests w new = record { lines = []; asked = refl; bytes = appends_nil w; counted = counted_none (fault_count p.disk); goes = subst (λ (l : List Session). Goes tells view p.limits [] new_sessions l p p) (sym new) (goes_none tells view p.limits new_sessions p) }
+  played_none ss p requests w new = record { lines = []; asked = refl; bytes = appends_nil w; counted = counted_none (fault_count p.disk); acted = ap (λ (l : List Session). footing l (running_of p)) new; goes = subst (λ (l : List Session). Goes tells view p.limits [] new_sessions l p p) (sym new) (goes_none tells view p.limits new_sessions p) }
 
   pub played_all : (ss : List Session) (p q : Shown D) (requests : List Request) (n : ℕ) (w v : Option (List ℕ)) → take n requests ≡ requests → Played tells view fault_count (take n requests) ss p q w v → Played tells view fault_count requests ss p q w v
   played_all ss p q requests n w v all played = subst (λ (l : List Request). Played tells view fault_count l ss p q w v) all played
@@ -261,6 +270,7 @@ module _ {D : Type 0} (tells : Bool) (view : D → View) (fault_count : D → �
     front = front_nil w;
     uncut = λ is. refl;
     ends = tt;
+    acted = (footing new_sessions (running_of p), refl);
     counted = subst (λ (x : D). Counted 0 (fault_count p.disk) (fault_count x) []) (sym same) (counted_none (fault_count p.disk));
     went = subst (λ (x : D). IsTrue tells → (start : State) (begin : ℕ) (history : List Happening) → HasRun view start begin history p → Went view start begin history p (view x) []) (sym same) (went_of new_sessions p p [] (goes_none tells view p.limits new_sessions p));
   }
@@ -272,6 +282,7 @@ module _ {D : Type 0} (tells : Bool) (view : D → View) (fault_count : D → �
     asked = played.asked;
     bytes = played.bytes;
     counted = counted_later (fault_count o.disk) (fault_count p.disk) (fault_count q.disk) played.lines later played.counted;
+    acted = (footing ss (running_of p), played.acted, acts_ended tells view fault_count call_count ss p q ends);
     goes = λ told start begin history run.
         let c = played.goes told start begin history run in
         continues_on view start begin history (λ later. AreLines o.limits played.lines (from_here new_sessions (memory o)) (standing ss (past_of (memory p) later))) (λ later. GiveUp (Happened o.limits) ss (past_of (memory p) []) (past_of (memory q) later))
@@ -325,6 +336,7 @@ module _ {D : Type 0} (view : D → View) (limits : Limits) (old : View) (p : Sh
         opened = is_opened limits old (view p.disk) (view q.disk) r recovers narrows c.past;
         stand = c.this.stand;
         did = did;
+        undamaged = whole_lines limits lines (from_here new_sessions (opening r)) c.this.stand did;
         end = end;
         ends = ends;
         holds = holds;
@@ -342,22 +354,31 @@ module _ {D : Type 0} (view : D → View) (limits : Limits) (old : View) (p : Sh
         opened = is_opened limits old (view p.disk) end r recovers narrows went.past;
         stand = went.stand;
         did = did;
+        undamaged = whole_lines limits lines (from_here new_sessions (opening r)) went.stand did;
         holds = holds;
         keeps = answers_kept limits (opening r) (view p.disk).clock went.stand.past end lines holds named.0 named.2;
       }
 
 -- what a run over a mounted disk says of the disk as it was
 module _ {D : Type 0} (tells : Bool) (view : D → View) (fault_count : D → ℕ) (limits : Limits) (requests : List Request) (disk : D) (p : Shown D) (mounts : IsTrue tells → Mounts (recover limits (view disk).reads) (Ok p)) (kept : p.limits ≡ limits)
-    (narrows : IsTrue tells → Narrows (view disk) (view p.disk)) (run : IsTrue tells → IsGood limits (now (view disk)) → HasRun view (memory p) (view p.disk).clock [] p) (sure : fault_count p.disk ≡ fault_count disk) where
+    (narrows : IsTrue tells → Narrows (view disk) (view p.disk)) (run : IsTrue tells → IsGood limits (now (view disk)) → HasRun view (memory p) (view p.disk).clock [] p) (sure : fault_count p.disk ≡ fault_count disk) (opened : memory p ≡ opening (unapplied p.ledger.log)) where
   later : fault_count disk ≤ fault_count p.disk
   later = omega (arith, sure)
+
+  counted_whole : (q : Shown D) (d : D) (w v : Option (List ℕ)) → d ≡ q.disk → (played : PlayedWhole tells view fault_count requests p q w v) → Counted 0 (fault_count disk) (fault_count d) played.lines
+  counted_whole q d w v same played = counted_earlier 0 (fault_count disk) (fault_count p.disk) (fault_count d) played.lines later (subst (λ (x : D). Counted 0 (fault_count p.disk) (fault_count x) played.lines) (sym same) played.counted)
+
+  counted_part : (cause : PlayCause) (end : D) (w v : Option (List ℕ)) → (played : PlayedPart tells view fault_count cause requests p end w v) → Counted (own_faults cause) (fault_count disk) (fault_count end) (played.whole ++ played.part)
+  counted_part cause end w v played = counted_earlier (own_faults cause) (fault_count disk) (fault_count p.disk) (fault_count end) (played.whole ++ played.part) later played.counted
 
   pub replayed : (q : Shown D) (d : D) (w v : Option (List ℕ)) → d ≡ q.disk → PlayedWhole tells view fault_count requests p q w v → Replayed tells limits requests (view disk) (view d) (fault_count disk) (fault_count d) w v
   replayed q d w v same played = record {
     lines = played.lines;
     asked = played.asked;
     bytes = played.bytes;
-    counted = counted_earlier 0 (fault_count disk) (fault_count p.disk) (fault_count d) played.lines later (subst (λ (x : D). Counted 0 (fault_count p.disk) (fault_count x) played.lines) (sym same) played.counted);
+    counted = counted_whole q d w v same played;
+    sure = none_faulty 0 (fault_count disk) (fault_count d) played.lines (counted_whole q d w v same played);
+    acted = acted_whole p limits (unapplied p.ledger.log) kept opened played.lines (running_of q) played.acted;
     opens = λ told. ((mounts told).0, (mounts told).1);
     worked = λ told good.
         let m = mounts told in
@@ -377,7 +398,9 @@ module _ {D : Type 0} (tells : Bool) (view : D → View) (fault_count : D → �
     front = played.front;
     uncut = played.uncut;
     ends = played.ends;
-    counted = counted_earlier (own_faults cause) (fault_count disk) (fault_count p.disk) (fault_count end) (played.whole ++ played.part) later played.counted;
+    counted = counted_part cause end w v played;
+    sure = none_faulty (own_faults cause) (fault_count disk) (fault_count end) (played.whole ++ played.part) (counted_part cause end w v played);
+    acted = acted_lines p limits (unapplied p.ledger.log) kept opened (played.whole ++ played.part) played.acted;
     opens = λ told. ((mounts told).0, (mounts told).1);
     worked = λ told good.
         let m = mounts told in

@@ -7,3 +7,4 @@ pub mod Script
 pub mod Statuses
 pub mod Words
 pub mod Exits
+pub mod AnyDisk

@@ -1,11 +1,12 @@
 -- The lines of a script with their answers, and what they make of the sessions and of the partition.
-use Rattle.std.specs.Prelude.{◌≡◌, ◌⊎◌, ℕ, ◌+◌, ◌-◌, ◌^◌, ◌≤◌, if◌then◌else◌, List, [], ◌∷◌, map, Option, Result, Ok, Err}
+use Rattle.std.specs.Prelude.{◌≡◌, ◌⊎◌, ℕ, ◌+◌, ◌-◌, ◌^◌, ◌≤◌, if◌then◌else◌, Bool, true, false, List, [], ◌∷◌, map, Option, Result, Ok, Err}
+use Rattle.gt_disk.specs.Files.{Rose}
 use Rattle.gt_model.specs.declared.done.Done.{Done}
 use Rattle.gt_model.specs.declared.done.Done.TheVariants.{Restarted}
 use Rattle.gt_model.specs.declared.event.Event.{Event}
 use Rattle.gt_model.specs.declared.limits.Limits.{Limits}
 use Rattle.gt_model.specs.declared.refusal.Refusal.{Refusal}
-use Rattle.gt_model.specs.declared.refusal.Refusal.TheVariants.{Memory}
+use Rattle.gt_model.specs.declared.refusal.Refusal.TheVariants.{Memory, Damaged}
 use Rattle.gt_model.specs.declared.who.Who.{Who}
 use Rattle.gt_model.specs.Histories.{Happening, event, opened, kept}
 use Rattle.gt_model.specs.Machine.{State, Step, Settles, is_faulty}
@@ -65,6 +66,11 @@ asked_by line = (line.number, line.request)
 abbrev pub printed : Line → List ℕ
 printed line = printed_answer line.answer
 
+-- whether an answer names damage
+abbrev pub names_damage : Result Done Refusal → Bool
+names_damage (Err (Damaged file at)) = true
+names_damage answer = false
+
 -- how many of these lines a failing disk answered
 abbrev pub faulty : List Line → ℕ
 faulty [] = 0
@@ -73,6 +79,10 @@ faulty (line ∷ lines) = (if is_faulty line.answer then 1 else 0) + faulty line
 -- The lines that a failing disk answered, and so many faults besides, are at most as many as its count of faults rose; or the count stands at its end.
 abbrev pub Counted : ℕ → ℕ → ℕ → List Line → Type 0
 Counted besides before now lines = (before + faulty lines + besides ≤ now) ⊎ (2 ^ 64 - 1 ≤ now)
+
+-- A count of faults didn't rise, and doesn't stand at its end.
+abbrev pub Stays : ℕ → ℕ → Type 0
+Stays before after = Rose before after → ⊥
 
 -- The machine of the one partition makes a step with this answer, which gives the pass that is due, and the event has happened. Of a want of memory there may be no record, and then nothing has changed.
 abbrev pub Happened : Limits → ℕ → Who → Event → Result Done Refusal → Option ℕ → Past → Past → Type 0

@@ -2,6 +2,8 @@
 use Rattle.std.specs.Prelude.{◌≡◌, ℕ, ◌≤◌, Bool, IsTrue, List, [], ◌∷◌, ◌++◌, length, map, Option, Result}
 use Rattle.std.specs.List.{flat_map}
 use Rattle.gt_disk.specs.Files.{View}
+use Rattle.gt_log.specs.declared.mount_cause.MountCause.{MountCause}
+use Rattle.gt_log.specs.declared.mount_cause.MountCause.TheVariants.{DeviceFault, Damaged as DamagedFile, Memory as NoMemoryToMount}
 use Rattle.gt_model.specs.declared.done.Done.{Done}
 use Rattle.gt_model.specs.declared.limits.Limits.{Limits}
 use Rattle.gt_model.specs.declared.refusal.Refusal.{Refusal}
@@ -16,6 +18,8 @@ use Rattle.gt_script.specs.declared.request.Request.{Request}
 use Rattle.gt_session.specs.Sessions.{Session}
 use Rattle.gt_prog.specs.declared.playing.PlayCause.{PlayCause}
 use Rattle.gt_prog.specs.declared.playing.PlayCause.TheVariants.{Write, Device, Damaged, Memory}
+use Rattle.gt_session.specs.Together.{GiveUp}
+use Rattle.gt_prog.specs.AnyDisk.{Footing, footing, running_of, Acts, AreActed}
 use Rattle.gt_prog.specs.Lines.{Line, Stand, past_of, standing, from_here, new_sessions, printed, numbered, asked_by, Counted, AreLines, IsEnd}
 
 -- These lines were done, and led from the first sessions to the others: whatever the history before, they are what came then.
@@ -40,6 +44,7 @@ pub record Played {D : Type 0} (tells : Bool) (view : D → View) (fault_count :
   pub asked : map asked_by lines ≡ numbered 1 requests
   pub bytes : AppendsAll written out (flat_map printed lines)
   pub counted : Counted 0 (fault_count old.disk) (fault_count new.disk) lines
+  pub acted : AreActed lines (footing new_sessions (running_of old)) (footing sessions (running_of new))
   pub goes : Goes tells view old.limits lines new_sessions sessions old new
 
 -- All requests were done to the end of the run, and their answers and nothing else were written.
@@ -48,6 +53,7 @@ pub record PlayedWhole {D : Type 0} (tells : Bool) (view : D → View) (fault_co
   pub asked : map asked_by lines ≡ numbered 1 requests
   pub bytes : AppendsAll written out (flat_map printed lines)
   pub counted : Counted 0 (fault_count old.disk) (fault_count new.disk) lines
+  pub acted : (stand : Footing) × AreActed lines (footing new_sessions (running_of old)) stand × GiveUp Acts stand.sessions stand.running (running_of new)
   pub goes : IsTrue tells → (start : State) (begin : ℕ) (history : List Happening) → HasRun view start begin history old
       → Continues view start begin history (IsWhole old.limits lines (memory old) (memory new)) old new
 
@@ -74,6 +80,12 @@ EndsAt Device part rest = IsAtRestart part rest
 EndsAt (Damaged file at) part rest = IsAtRestart part rest
 EndsAt Memory part rest = Unit {0}
 
+-- what ends the work where a restart fails
+abbrev pub restart_cause : MountCause → PlayCause
+restart_cause DeviceFault = Device
+restart_cause (DamagedFile file at) = Damaged file at
+restart_cause NoMemoryToMount = Memory
+
 -- the faults of the disk that a cause tells of
 abbrev pub own_faults : PlayCause → ℕ
 own_faults Write = 0
@@ -94,4 +106,5 @@ pub record PlayedPart {D : Type 0} (tells : Bool) (view : D → View) (fault_cou
   pub uncut : cause ≡ Memory → out ≡ between
   pub ends : EndsAt cause part rest
   pub counted : Counted (own_faults cause) (fault_count old.disk) (fault_count end) (whole ++ part)
+  pub acted : (stand : Footing) × AreActed (whole ++ part) (footing new_sessions (running_of old)) stand
   pub went : IsTrue tells → (start : State) (begin : ℕ) (history : List Happening) → HasRun view start begin history old → Went view start begin history old (view end) (whole ++ part)

@@ -1,5 +1,5 @@
 -- A whole run: the lines of a script over a disk, what was written, and what the disk has come to.
-use Rattle.std.specs.Prelude.{◌≡◌, ℕ, ◌≤◌, Bool, IsTrue, List, ◌++◌, length, map, Option, Ok}
+use Rattle.std.specs.Prelude.{◌≡◌, ℕ, ◌≤◌, Bool, false, IsTrue, List, ◌++◌, length, map, Option, Ok}
 use Rattle.std.specs.List.{flat_map, AllByRecursion}
 use Rattle.gt_disk.specs.Files.{Files, View, now, IsImage}
 use Rattle.gt_model.specs.declared.limits.Limits.{Limits}
@@ -13,7 +13,8 @@ use Rattle.gt_script.specs.declared.request.Request.{Request}
 use Rattle.gt_prog.specs.declared.playing.PlayCause.{PlayCause}
 use Rattle.gt_prog.specs.declared.playing.PlayCause.TheVariants.{Memory}
 use Rattle.gt_prog.specs.Played.{EndsAt, own_faults}
-use Rattle.gt_prog.specs.Lines.{Line, Past, Stand, from_here, new_sessions, printed, numbered, asked_by, Counted, AreLines, IsEnd}
+use Rattle.gt_prog.specs.Lines.{Line, Past, Stand, from_here, new_sessions, printed, numbered, asked_by, names_damage, faulty, Stays, Counted, AreLines, IsEnd}
+use Rattle.gt_prog.specs.AnyDisk.{ActedLines, ActedWhole}
 
 -- The disk was opened at this moment with what it recovers to, and until then a stop leaves nothing that it couldn't leave before.
 pub record IsOpened (limits : Limits) (old new : View) (start : Recovered) (begin : ℕ) : Type 0 where
@@ -26,13 +27,14 @@ pub record IsOpened (limits : Limits) (old new : View) (start : Recovered) (begi
 abbrev pub KeepsAnswers : Limits → View → List Line → Type 0
 KeepsAnswers limits new lines = (image : Files) → IsImage (now new) image → (r : Recovered) × (recover limits image ≡ Ok r) × AllByRecursion (λ line. position line.answer ≤ front (opening r)) lines
 
--- The work on a disk, to the end of the input: it is opened, new sessions do the lines, and then each gives up what it has open. The disk has what both made.
+-- The work on a disk, to the end of the input: it is opened, new sessions do the lines, none of which finds damage, and then each gives up what it has open. The disk has what both made.
 pub record Worked (limits : Limits) (old new : View) (lines : List Line) : Type 0 where
   pub start : Recovered
   pub begin : ℕ
   pub opened : IsOpened limits old new start begin
   pub stand : Stand
   pub did : AreLines limits lines (from_here new_sessions (opening start)) stand
+  pub undamaged : AllByRecursion (λ line. names_damage line.answer ≡ false) lines
   pub end : Past
   pub ends : IsEnd limits stand end
   pub holds : Holds limits (opening start) begin end.happened new
@@ -45,6 +47,7 @@ pub record WorkedPart (limits : Limits) (old new : View) (lines : List Line) : T
   pub opened : IsOpened limits old new start begin
   pub stand : Stand
   pub did : AreLines limits lines (from_here new_sessions (opening start)) stand
+  pub undamaged : AllByRecursion (λ line. names_damage line.answer ≡ false) lines
   pub holds : Holds limits (opening start) begin stand.past.happened new
   pub keeps : KeepsAnswers limits new lines
 
@@ -52,12 +55,14 @@ pub record WorkedPart (limits : Limits) (old new : View) (lines : List Line) : T
 abbrev pub Opens : Limits → View → Type 0
 Opens limits old = (start : Recovered) × (recover limits old.reads ≡ Ok start)
 
--- These requests were done, and their answers and nothing else were written; the disk's count of faults rose from the one number to the other. A disk that tells recovers as it was handed in. One that may be handed in has come to the end of their run.
+-- These requests were done, each answered as the machine answers over any disk, and their answers and nothing else were written; the disk's count of faults rose from the one number to the other, and where it stays no line was answered by a fault. A disk that tells recovers as it was handed in. One that may be handed in has come to the end of their run.
 pub record Replayed (tells : Bool) (limits : Limits) (requests : List Request) (old new : View) (before after : ℕ) (written out : Option (List ℕ)) : Type 0 where
   pub lines : List Line
   pub asked : map asked_by lines ≡ numbered 1 requests
   pub bytes : AppendsAll written out (flat_map printed lines)
   pub counted : Counted 0 before after lines
+  pub sure : Stays before after → faulty lines ≡ 0
+  pub acted : ActedWhole limits lines
   pub opens : IsTrue tells → Opens limits old
   pub worked : IsTrue tells → IsGood limits (now old) → Worked limits old new lines
 
@@ -74,5 +79,7 @@ pub record ReplayedPart (tells : Bool) (limits : Limits) (cause : PlayCause) (re
   pub uncut : cause ≡ Memory → out ≡ between
   pub ends : EndsAt cause part rest
   pub counted : Counted (own_faults cause) before after (whole ++ part)
+  pub sure : Stays before after → faulty (whole ++ part) ≡ 0
+  pub acted : ActedLines limits (whole ++ part)
   pub opens : IsTrue tells → Opens limits old
   pub worked : IsTrue tells → IsGood limits (now old) → WorkedPart limits old new (whole ++ part)

@@ -123,10 +123,6 @@ pub record AreGood (tells : Bool) (words : List (List ℕ)) (input : Option (Lis
   pub script : script_of input_limit bytes ≡ Ok requests
   pub good : IsGood usual (now disk)
 
--- A count of faults didn't rise, and doesn't stand at its end.
-abbrev pub Stays : ℕ → ℕ → Type 0
-Stays before after = Rose before after → ⊥
-
 abbrev pub status_of_mount : MountCause → Status
 status_of_mount DeviceFault = DiskFault 1
 status_of_mount (DamagedFile file at) = Damaged 1 file at

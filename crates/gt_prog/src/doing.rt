@@ -11,6 +11,7 @@ ghost use Rattle.gt_base.specs.Recovery.{recover};
 ghost use Rattle.gt_history.specs.Runs.{KeepsPast};
 ghost use Rattle.gt_part.specs.Shown.{HasRun};
 ghost use Rattle.gt_prog.specs.One.{in_one};
+ghost use Rattle.gt_prog.specs.AnyDisk.{ActedOne};
 ghost use Rattle.gt_prog.specs.Played.{DidOne};
 ghost use Rattle.gt_prog.specs.Script.{HasSession, is_built};
 ghost use Rattle.gt_script.specs.declared.form.Form.TheVariants.{Restart};
@@ -38,6 +39,7 @@ pub(crate) fn play_one<D: Disk + Drop>(
     requires session { HasSession request.now }
     requires held { AreHeld sessions.old (in_one (map (λ p. p.number) local.live)) }
     ensures did { IfOk result (λ r. DidOne D.tells D.view local.limits line request.now r.1 sessions.old sessions.new local r.0) }
+    ensures acted { IfOk result (λ r. ActedOne line request.now r.1 sessions.old sessions.new local r.0) }
     ensures held { IfOk result (λ r. AreHeld sessions.new (in_one (map (λ p. p.number) r.0.live))) }
     ensures limits { IfOk result (λ r. r.0.limits ≡ local.limits) }
     ensures fault { IfOk result (λ r. IsTrue (is_faulty r.1) → Rose (D.fault_count local.disk) (D.fault_count r.0.disk)) }
@@ -78,6 +80,7 @@ fn ask<D: Disk + Drop>(
     requires session { HasSession request.now }
     requires held { AreHeld sessions.old (in_one (map (λ p. p.number) local.old.live)) }
     ensures did { DidOne D.tells D.view local.old.limits line request.now result sessions.old sessions.new local.old local.new }
+    ensures acted { ActedOne line request.now result sessions.old sessions.new local.old local.new }
     ensures held { AreHeld sessions.new (in_one (map (λ p. p.number) local.new.live)) }
     ensures limits { local.new.limits ≡ local.old.limits }
     ensures fault { IsTrue (is_faulty result) → Rose (D.fault_count local.old.disk) (D.fault_count local.new.disk) }

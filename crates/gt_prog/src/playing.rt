@@ -7,7 +7,7 @@ ghost use Rattle.gt_log.specs.declared.mount_cause.MountCause.{MountCause};
 ghost use Rattle.gt_base.specs.Recovery.{recover};
 ghost use Rattle.gt_prog.specs.Lines.{new_sessions};
 ghost use Rattle.gt_prog.specs.One.{in_one, LocalDid};
-ghost use Rattle.gt_prog.specs.Played.{Played, PlayedPart, PlayedWhole};
+ghost use Rattle.gt_prog.specs.Played.{Played, PlayedPart, PlayedWhole, restart_cause};
 ghost use Rattle.gt_prog.specs.Script.{HasSession, not_built};
 ghost use Rattle.gt_session.specs.Together.{AreHeld, GiveUp};
 
@@ -51,6 +51,7 @@ pub(crate) fn play<D: Disk + Drop, K: Sink>(
     sink: &mut K,
     requests: &[Request],
 ) -> Result<Partition<D>, PlayError<D>>
+    requires first { partition.number ≡ 1 }
     requires few { length requests.now < 2 ^ 32 }
     requires built { not_built requests.now ≡ None }
     requires sessions { All HasSession requests.now }
@@ -140,6 +141,7 @@ fn finish<D: Disk + Drop>(local: Local<D>, sessions: Sessions<Pin>) -> Partition
 
 fn not_reopened<D>(error: MountError<D>) -> PlayError<D>
     ensures disk { result.disk ≡ error.disk }
+    ensures cause { result.cause ≡ restart_cause error.cause }
     ensures write { result.cause ≢ PlayCause.Write }
     ensures device { result.cause ≡ PlayCause.Device → error.cause ≡ MountCause.DeviceFault }
     ensures damaged { (file : FileId) (at : ℕ) → result.cause ≡ PlayCause.Damaged file at → error.cause ≡ MountCause.Damaged file at }

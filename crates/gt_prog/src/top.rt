@@ -8,7 +8,8 @@ ghost use Rattle.gt_base.specs.Recovery.{recover};
 ghost use Rattle.gt_base.specs.Histories.{IsGood};
 ghost use Rattle.gt_prog.specs.declared.playing.PlayCause.{PlayCause};
 ghost use Rattle.gt_prog.specs.Script.{HasSession, not_built};
-ghost use Rattle.gt_prog.specs.Statuses.{AreGood, Stays, IsBadAt, IsNotYetAt, IsGoodInput, IsDone, IsCutShort, IsBroken, IsEarly, IsUnderway, ReadsInput, RoseEither, input_limit};
+ghost use Rattle.gt_prog.specs.Lines.{Stays};
+ghost use Rattle.gt_prog.specs.Statuses.{AreGood, IsBadAt, IsNotYetAt, IsGoodInput, IsDone, IsCutShort, IsBroken, IsEarly, IsUnderway, ReadsInput, RoseEither, input_limit};
 ghost use Rattle.gt_prog.specs.Words.{is_replay};
 
 use crate::script::{ScriptError, parse_script};

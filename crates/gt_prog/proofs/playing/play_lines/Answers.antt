@@ -31,13 +31,13 @@ returns-in-Err-clause-part g c =
 pub returns-in-Err-write_answer-clause-part : goal.returns-in-Err-write_answer-clause-part
 returns-in-Err-write_answer-clause-part g c =
     part_written g.D.Disk.tells g.D.Disk.view g.D.Disk.fault_count c.args.local c.args.requests.now c.loop-request.request-index c.request-item.result c.loop-request-test.true c.request-item.is (c.loop-request.line + 1) (omega (arith, c.loop-request.invariant.numbered)) c.loop-request.sessions c.play_one.new.sessions
-    c.loop-request.local c.in-Ok.next c.loop-request.invariant.limits c.in-Ok.answer _ _ _ c.loop-request.invariant.played c.in-Ok.ensures.did c.in-Ok.ensures.later c.in-Ok.ensures.fault c.in-Err-write_answer.cause
+    c.loop-request.local c.in-Ok.next c.loop-request.invariant.limits c.in-Ok.answer _ _ _ c.loop-request.invariant.played c.in-Ok.ensures.did c.in-Ok.ensures.later c.in-Ok.ensures.fault c.in-Ok.ensures.acted c.in-Err-write_answer.cause
     c.unmount.result (λ is. c.in-Err-write_answer.ensures.device (ap Err is)) (λ file at is. c.in-Err-write_answer.ensures.sound file at (ap Err is)) (λ is. c.in-Err-write_answer.ensures.memory (ap Err is)) (c.unmount.ensures ∙ ap (λ (p : Shown _). p.disk) c.local.view_is) c.in-Err-write_answer.ensures.front
 
 pub loop-request-preserved : goal.loop-request-preserved
 loop-request-preserved g c = record {
   played = played_more g.D.Disk.tells g.D.Disk.view g.D.Disk.fault_count c.args.local c.args.requests.now c.loop-request.request-index c.request-item.result c.loop-request-test.true c.request-item.is (c.loop-request.line + 1) (omega (arith, c.loop-request.invariant.numbered)) c.loop-request.sessions
-      c.play_one.new.sessions c.loop-request.local c.in-Ok.next c.loop-request.invariant.limits c.in-Ok.answer _ _ _ c.loop-request.invariant.played c.in-Ok.ensures.did c.in-Ok.ensures.later c.in-Ok.ensures.fault c.in_default.ensures.whole;
+      c.play_one.new.sessions c.loop-request.local c.in-Ok.next c.loop-request.invariant.limits c.in-Ok.answer _ _ _ c.loop-request.invariant.played c.in-Ok.ensures.did c.in-Ok.ensures.later c.in-Ok.ensures.fault c.in-Ok.ensures.acted c.in_default.ensures.whole;
   held = c.in-Ok.ensures.held;
   numbered = omega (arith, c.loop-request.invariant.numbered);
   sure = c.in_default.ensures.sure (λ is. absurd (cc is)) ∙ c.loop-request.invariant.sure;
