@@ -1,5 +1,5 @@
 -- Lines over any disk, from calls of the partition.
-use Rattle.std.proofs.Common.{◌≡◌, ℕ, Bool, true, List, [], ◌∷◌, ◌++◌, map, Option, Result, Ok, refl, sym, ap, ◌∙◌, subst}
+use Rattle.std.proofs.Common.{◌≡◌, ℕ, Bool, true, List, [], ◌∷◌, ◌++◌, map, Option, Result, Ok, refl, sym, ap, subst}
 use Rattle.gt_disk.specs.Files.{View}
 use Rattle.gt_model.specs.declared.done.Done.{Done}
 use Rattle.gt_model.specs.declared.done.Done.TheVariants.{Restarted}
@@ -7,7 +7,7 @@ use Rattle.gt_model.specs.declared.event.Event.{Event}
 use Rattle.gt_model.specs.declared.limits.Limits.{Limits}
 use Rattle.gt_model.specs.declared.refusal.Refusal.{Refusal}
 use Rattle.gt_model.specs.declared.who.Who.{Who}
-use Rattle.gt_model.specs.Machine.{State, Recovered, opening}
+use Rattle.gt_model.specs.Machine.{Recovered, opening}
 use Rattle.gt_part.specs.Shown.{Shown, memory}
 use Rattle.gt_script.specs.declared.form.Form.{Form}
 use Rattle.gt_script.specs.declared.form.Form.TheVariants.{Restart}

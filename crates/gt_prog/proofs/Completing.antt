@@ -1,5 +1,5 @@
 -- A good script over a good disk comes to its end, where nothing fails.
-use Rattle.std.proofs.Common.{◌≡◌, ◌⊎◌, inl, inr, ⊎_elim, ℕ, Bool, true, false, List, Option, Some, None, Result, Ok, Err, IfSome, refl, sym, ◌∙◌, subst}
+use Rattle.std.proofs.Common.{◌≡◌, ◌⊎◌, inl, inr, ⊎_elim, ℕ, Bool, List, Option, Ok, Err, IfSome, refl, sym, ◌∙◌, subst}
 use Rattle.gt_disk.specs.declared.file_id.FileId.{FileId}
 use Rattle.gt_disk.specs.Files.{View, Rose}
 use Rattle.gt_model.specs.declared.limits.Limits.{Limits}

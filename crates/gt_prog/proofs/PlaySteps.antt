@@ -34,7 +34,7 @@ use Rattle.gt_prog.specs.Lines.{Line, Past, Stand, past_of, standing, from_here,
 use Rattle.gt_prog.specs.declared.playing.PlayCause.{PlayCause}
 use Rattle.gt_prog.specs.declared.playing.PlayCause.TheVariants.{Write, Device, Damaged, Memory}
 use Rattle.gt_prog.specs.Played.{Goes, DidOne, IsWhole, Played, PlayedWhole, IsAtRestart, EndsAt, own_faults, PlayedPart, Went}
-use Rattle.gt_prog.specs.AnyDisk.{Footing, footing, running_of, ActedOne, AreActed}
+use Rattle.gt_prog.specs.AnyDisk.{footing, running_of, ActedOne, AreActed}
 use Rattle.gt_prog.specs.Replay.{IsOpened, Worked, WorkedPart, Replayed, ReplayedPart}
 use Rattle.gt_prog.proofs.Framing.{lines_over, end_over, lines_then, course_line}
 use Rattle.gt_prog.proofs.Acknowledged.{begins, still_named, lines_named, end_named, answers_kept}

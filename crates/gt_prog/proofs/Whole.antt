@@ -1,17 +1,16 @@
 -- Over a disk that tells no line finds damage.
-use Rattle.std.proofs.Common.{◌≡◌, ℕ, Bool, true, false, IsTrue, List, [], ◌∷◌, Option, Result, Ok, Err, refl, ap}
+use Rattle.std.proofs.Common.{◌≡◌, Bool, true, false, IsTrue, List, [], ◌∷◌, Result, Ok, Err, refl, ap}
 use Rattle.std.specs.List.{AllByRecursion}
 use Rattle.gt_model.specs.declared.done.Done.{Done}
 use Rattle.gt_model.specs.declared.event.Event.{Event}
 use Rattle.gt_model.specs.declared.limits.Limits.{Limits}
 use Rattle.gt_model.specs.declared.refusal.Refusal.{Refusal}
 use Rattle.gt_model.specs.declared.refusal.Refusal.TheVariants.{Damaged}
-use Rattle.gt_model.specs.declared.who.Who.{Who}
 use Rattle.gt_model.specs.Machine.{State, Step}
 use Rattle.gt_model.proofs.Damage.{never_damaged}
 use Rattle.gt_script.specs.declared.form.Form.{Form}
 use Rattle.gt_script.specs.declared.form.Form.TheVariants.{Restart}
-use Rattle.gt_prog.specs.Lines.{Line, Past, Stand, names_damage, Happened, LineBy, AreLines}
+use Rattle.gt_prog.specs.Lines.{Line, Stand, names_damage, Happened, LineBy, AreLines}
 use Rattle.gt_prog.proofs.Faultless.{requests_rises}
 
 module _ (limits : Limits) where
