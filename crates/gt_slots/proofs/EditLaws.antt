@@ -6,7 +6,7 @@ use Rattle.std.specs.FinMap.{is_sorted}
 use Rattle.std.specs.FinMap.Entries.{below_all}
 use Rattle.gt_model.specs.Contents.{key_cmp}
 use Rattle.gt_versions.proofs.Keys.{at_key}
-use Rattle.gt_slots.specs.Pages.{all, AllBefore, NoneBefore, NoneEmpty, IsWell, page, front, rest, IsPlace, IsHalved, Inserts}
+use Rattle.gt_slots.specs.Pages.{all, page_limit, AllBefore, NoneBefore, NoneEmpty, NoneLonger, IsWell, page, front, rest, IsPlace, IsHalved, Inserts}
 use Rattle.gt_slots.proofs.SortLaws.{both, front_of, back_of, T_of, below_less}
 use Rattle.gt_slots.proofs.PlaceLaws.{front_rest, rest_end}
 use Rattle.gt_slots.proofs.LookLaws.{behind, sorted_rest_of, look_at, at_first}
@@ -26,6 +26,16 @@ module _ {X : Type 0} where
   full_set [] i q n l = tt
   full_set (p ∷ ps) zero q n l = (l, n.1)
   full_set (p ∷ ps) (suc i) q n l = (n.0, full_set ps i q n.1 l)
+
+  pub short_set : (n : ℕ) (ps : List (List (List ℕ × X))) (i : ℕ) (q : List (List ℕ × X)) → NoneLonger n ps → length q ≤ n → NoneLonger n (slice_set ps i q)
+  short_set n [] i q h l = tt
+  short_set n (p ∷ ps) zero q h l = (l, h.1)
+  short_set n (p ∷ ps) (suc i) q h l = (h.0, short_set n ps i q h.1 l)
+
+  pub page_short : (n : ℕ) (ps : List (List (List ℕ × X))) (i : ℕ) → NoneLonger n ps → length (page ps i) ≤ n
+  page_short n [] i h = omega arith
+  page_short n (p ∷ ps) zero h = h.0
+  page_short n (p ∷ ps) (suc i) h = page_short n ps i h.1
 
   pub set_inserted : (ps : List (List (List ℕ × X))) (i j : ℕ) (e : List ℕ × X) → i < length ps → all (slice_set ps i (insert (page ps i) j e)) ≡ front ps i j ++ e ∷ rest ps i j
   set_inserted [] i j e l = absurd (omega arith)
@@ -58,16 +68,20 @@ module _ {X : Type 0} where
           let l = behind k e.0 n.0 t in
           both (is_lt (key_cmp k e.0)) (below_all key_cmp k es) (T_of (key_cmp k e.0) l) (below_less k e.0 es l (front_of (below_all key_cmp e.0 es) (is_sorted key_cmp es) s))
 
-  pub well_inserted : (ps : List (List (List ℕ × X))) (i j : ℕ) (k : List ℕ) (v : X) → IsWell ps → IsPlace k ps i j → i < length ps → at_key (all ps) k ≡ None → IsWell (slice_set ps i (insert (page ps i) j (k, v)))
-  well_inserted ps i j k v w p l none = record {
+  pub well_inserted : (ps : List (List (List ℕ × X))) (i j : ℕ) (k : List ℕ) (v : X) → IsWell ps → IsPlace k ps i j → i < length ps → at_key (all ps) k ≡ None → length (page ps i) < page_limit → IsWell (slice_set ps i (insert (page ps i) j (k, v)))
+  well_inserted ps i j k v w p l none room = record {
     sorted =
         let P : List (List ℕ × X) → Type 0 = λ q. T (is_sorted key_cmp q) in
         subst P (sym (set_inserted ps i j (k, v) l))
         (sorted_inserted k v (front ps i j) (rest ps i j) (subst P (sym (front_rest ps i j)) w.sorted) p.before
         (below_rest k (rest ps i j) (sorted_rest_of ps i j w.sorted) p.after (sym (look_at k ps i j w p) ∙ none)));
     full = full_set ps i (insert (page ps i) j (k, v)) w.full (longer (take j (page ps i)) (drop j (page ps i)));
+    short = short_set page_limit ps i (insert (page ps i) j (k, v)) w.short (one_more (take j (page ps i)) (drop j (page ps i)) (page ps i) (take-append-drop j (page ps i)) room);
   }
     where
+      one_more : (xs ys p : List (List ℕ × X)) → xs ++ ys ≡ p → length p < page_limit → length (xs ++ (k, v) ∷ ys) ≤ page_limit
+      one_more xs ys p is l = let n : length (xs ++ ys) ≡ length p = ap length is in omega (arith, length-append xs ((k, v) ∷ ys), length-append xs ys, n, l)
+
       longer : (xs ys : List (List ℕ × X)) → 0 < length (xs ++ (k, v) ∷ ys)
       longer xs ys = omega (arith, length-append xs ((k, v) ∷ ys))
 
@@ -95,6 +109,10 @@ module _ {X : Type 0} where
   full_pushed [] q n l = (l, tt)
   full_pushed (p ∷ ps) q n l = (n.0, full_pushed ps q n.1 l)
 
+  short_pushed : (n : ℕ) (ps : List (List (List ℕ × X))) (q : List (List ℕ × X)) → NoneLonger n ps → length q ≤ n → NoneLonger n (ps ++ q ∷ [])
+  short_pushed n [] q h l = (l, tt)
+  short_pushed n (p ∷ ps) q h l = (h.0, short_pushed n ps q h.1 l)
+
   sorted_pushed : (k : List ℕ) (v : X) (es : List (List ℕ × X)) → T (is_sorted key_cmp es) → AllBefore k es → T (is_sorted key_cmp (es ++ (k, v) ∷ []))
   sorted_pushed k v es s a = let P : List (List ℕ × X) → Type 0 = λ q. T (is_sorted key_cmp q) in sorted_inserted k v es [] (subst P (sym (append-nil es)) s) a tt
 
@@ -102,14 +120,15 @@ module _ {X : Type 0} where
   well_page ps qs k v e w a =
       let P : List (List (List ℕ × X)) → Type 0 = λ q. IsWell q in
       let Q : List (List ℕ × X) → Type 0 = λ q. T (is_sorted key_cmp q) in
-      subst P (sym e) (record { sorted = subst Q (sym (all_pushed ps ((k, v) ∷ []))) (sorted_pushed k v (all ps) w.sorted a); full = full_pushed ps ((k, v) ∷ []) w.full (omega arith) })
+      subst P (sym e) (record { sorted = subst Q (sym (all_pushed ps ((k, v) ∷ []))) (sorted_pushed k v (all ps) w.sorted a); full = full_pushed ps ((k, v) ∷ []) w.full (omega arith); short = short_pushed page_limit ps ((k, v) ∷ []) w.short (omega arith) })
 
-  pub well_pushed : (ps : List (List (List ℕ × X))) (i : ℕ) (k : List ℕ) (v : X) → suc i ≡ length ps → IsWell ps → AllBefore k (all ps) → IsWell (slice_set ps i (page ps i ++ (k, v) ∷ []))
-  well_pushed ps i k v l w a =
+  pub well_pushed : (ps : List (List (List ℕ × X))) (i : ℕ) (k : List ℕ) (v : X) → suc i ≡ length ps → IsWell ps → AllBefore k (all ps) → length (page ps i) < page_limit → IsWell (slice_set ps i (page ps i ++ (k, v) ∷ []))
+  well_pushed ps i k v l w a room =
       let Q : List (List ℕ × X) → Type 0 = λ q. T (is_sorted key_cmp q) in
       record {
         sorted = subst Q (sym (set_pushed ps i (k, v) l)) (sorted_pushed k v (all ps) w.sorted a);
         full = full_set ps i (page ps i ++ (k, v) ∷ []) w.full (omega (arith, length-append (page ps i) ((k, v) ∷ [])));
+        short = short_set page_limit ps i (page ps i ++ (k, v) ∷ []) w.short (omega (arith, length-append (page ps i) ((k, v) ∷ []), room));
       }
 
   pub insert_end : (p : List (List ℕ × X)) (j : ℕ) (e : List ℕ × X) → j ≡ length p → insert p j e ≡ p ++ e ∷ []
@@ -136,6 +155,11 @@ module _ {X : Type 0} where
   split_full (p ∷ ps) zero lower upper n a b = (a, (b, n.1))
   split_full (p ∷ ps) (suc i) lower upper n a b = (n.0, split_full ps i lower upper n.1 a b)
 
+  split_short : (n : ℕ) (ps : List (List (List ℕ × X))) (i : ℕ) (lower upper : List (List ℕ × X)) → NoneLonger n ps → length lower ≤ n → length upper ≤ n → NoneLonger n (insert (slice_set ps i lower) (suc i) upper)
+  split_short n [] i lower upper h a b = (b, tt)
+  split_short n (p ∷ ps) zero lower upper h a b = (a, (b, h.1))
+  split_short n (p ∷ ps) (suc i) lower upper h a b = (h.0, split_short n ps i lower upper h.1 a b)
+
   pub halved_all : (i : ℕ) (upper : List (List ℕ × X)) (old new qs : List (List (List ℕ × X))) → i < length old → IsHalved i upper old new → qs ≡ insert new (i + 1) upper → all qs ≡ all old
   halved_all i upper old new qs l h e =
       ap all (e ∙ ap (λ n. insert new n upper) (add-one i) ∙ ap (λ ps. insert ps (suc i) upper) h.set)
@@ -145,9 +169,14 @@ module _ {X : Type 0} where
   halved_well i upper old new qs w l h e =
       let P : List (List ℕ × X) → Type 0 = λ q. T (is_sorted key_cmp q) in
       let Q : List (List (List ℕ × X)) → Type 0 = λ q. NoneEmpty q in
+      let S : List (List (List ℕ × X)) → Type 0 = λ q. NoneLonger page_limit q in
+      let whole : length (page new i ++ upper) ≡ length (page old i) = ap length h.whole in
+      let parts = length-append (page new i) upper in
+      let most = page_short page_limit old i w.short in
       record {
         sorted = subst P (sym (halved_all i upper old new qs l h e)) w.sorted;
         full = subst Q (sym (e ∙ ap (λ n. insert new n upper) (add-one i) ∙ ap (λ ps. insert ps (suc i) upper) h.set)) (split_full old i (page new i) upper w.full h.lower_some h.upper_some);
+        short = subst S (sym (e ∙ ap (λ n. insert new n upper) (add-one i) ∙ ap (λ ps. insert ps (suc i) upper) h.set)) (split_short page_limit old i (page new i) upper w.short (omega (arith, whole, parts, most)) (omega (arith, whole, parts, most)));
       }
 
   pub halved : (i n : ℕ) (lower upper : List (List ℕ × X)) (old : List (List (List ℕ × X))) → i < length old → lower ≡ take n (page old i) → upper ≡ drop n (page old i) → 0 < n → n < length (page old i) → IsHalved i upper old (slice_set old i lower)
@@ -169,11 +198,11 @@ module _ {X : Type 0} where
   set_same (p ∷ ps) (suc i) = ap (λ q. p ∷ q) (set_same ps i)
 
   module _ {R E : Type 0} where
-    pub well_after : (res : Result R E) (ps : List (List (List ℕ × X))) (i j : ℕ) (k : List ℕ) (v : X) (found new : List (List ℕ × X)) → page ps i ≡ found → IsWell ps → IsPlace k ps i j → i < length ps → at_key (all ps) k ≡ None
+    pub well_after : (res : Result R E) (ps : List (List (List ℕ × X))) (i j : ℕ) (k : List ℕ) (v : X) (found new : List (List ℕ × X)) → page ps i ≡ found → IsWell ps → IsPlace k ps i j → i < length ps → at_key (all ps) k ≡ None → length (page ps i) < page_limit
         → OnOk res (new ≡ insert found j (k, v)) → OnErr res (new ≡ found) → IsWell (slice_set ps i new)
-    well_after (Ok r) ps i j k v found new is w p l none ok err =
-        let P : List (List ℕ × X) → Type 0 = λ q. IsWell (slice_set ps i q) in subst P (ap (λ q. insert q j (k, v)) is ∙ sym ok) (well_inserted ps i j k v w p l none)
-    well_after (Err e) ps i j k v found new is w p l none ok err =
+    well_after (Ok r) ps i j k v found new is w p l none room ok err =
+        let P : List (List ℕ × X) → Type 0 = λ q. IsWell (slice_set ps i q) in subst P (ap (λ q. insert q j (k, v)) is ∙ sym ok) (well_inserted ps i j k v w p l none room)
+    well_after (Err e) ps i j k v found new is w p l none room ok err =
         let P : List (List (List ℕ × X)) → Type 0 = λ q. IsWell q in subst P (sym (set_same ps i) ∙ ap (slice_set ps i) (is ∙ sym err)) w
 
     pub inserts_after : (res : Result R E) (ps : List (List (List ℕ × X))) (i j : ℕ) (e : List ℕ × X) (found new : List (List ℕ × X)) → page ps i ≡ found → i < length ps → OnOk res (new ≡ insert found j e) → OnOk res (Inserts e (all ps) (all (slice_set ps i new)))
@@ -181,12 +210,12 @@ module _ {X : Type 0} where
         let P : List (List ℕ × X) → Type 0 = λ q. Inserts e (all ps) (all (slice_set ps i q)) in subst P (ap (λ q. insert q j e) is ∙ sym ok) (inserts_at ps i j e l)
     inserts_after (Err x) ps i j e found new is l ok = tt
 
-    pub well_end : (res : Result R E) (ps : List (List (List ℕ × X))) (i j : ℕ) (k : List ℕ) (v : X) (found new : List (List ℕ × X)) → page ps i ≡ found → suc i ≡ length ps → j ≡ length found → IsWell ps → AllBefore k (all ps)
+    pub well_end : (res : Result R E) (ps : List (List (List ℕ × X))) (i j : ℕ) (k : List ℕ) (v : X) (found new : List (List ℕ × X)) → page ps i ≡ found → suc i ≡ length ps → j ≡ length found → IsWell ps → AllBefore k (all ps) → length (page ps i) < page_limit
         → OnOk res (new ≡ insert found j (k, v)) → OnErr res (new ≡ found) → IsWell (slice_set ps i new)
-    well_end (Ok r) ps i j k v found new is l m w a ok err =
+    well_end (Ok r) ps i j k v found new is l m w a room ok err =
         let P : List (List ℕ × X) → Type 0 = λ q. IsWell (slice_set ps i q) in
-        subst P (ap (λ q. q ++ (k, v) ∷ []) is ∙ sym (ok ∙ insert_end found j (k, v) m)) (well_pushed ps i k v l w a)
-    well_end (Err e) ps i j k v found new is l m w a ok err =
+        subst P (ap (λ q. q ++ (k, v) ∷ []) is ∙ sym (ok ∙ insert_end found j (k, v) m)) (well_pushed ps i k v l w a room)
+    well_end (Err e) ps i j k v found new is l m w a room ok err =
         let P : List (List (List ℕ × X)) → Type 0 = λ q. IsWell q in subst P (sym (set_same ps i) ∙ ap (slice_set ps i) (is ∙ sym err)) w
 
     pub pushed_end : (res : Result R E) (ps : List (List (List ℕ × X))) (i j : ℕ) (e : List ℕ × X) (found new : List (List ℕ × X)) → page ps i ≡ found → suc i ≡ length ps → j ≡ length found → OnOk res (new ≡ insert found j e) → OnOk res (all (slice_set ps i new) ≡ all ps ++ e ∷ [])

@@ -11,10 +11,10 @@ use Rattle.gt_model.specs.Contents.{key_cmp}
 use Rattle.gt_versions.specs.Versions.{ready, put_at, is_last}
 use Rattle.gt_versions.proofs.Keys.{at_key, flip}
 use Rattle.gt_slots.specs.Slots.{items_of, slot_ready}
-use Rattle.gt_slots.specs.Pages.{all, NoneEmpty, IsWell, page, front, rest, IsAt, Inserts, Replaces, Edits}
+use Rattle.gt_slots.specs.Pages.{all, page_limit, NoneEmpty, NoneLonger, IsWell, page, front, rest, IsAt, Inserts, Replaces, Edits}
 use Rattle.gt_slots.proofs.SortLaws.{look_past}
 use Rattle.gt_slots.proofs.PlaceLaws.{front_rest}
-use Rattle.gt_slots.proofs.EditLaws.{full_set, set_page}
+use Rattle.gt_slots.proofs.EditLaws.{full_set, short_set, page_short, set_page}
 use Rattle.gt_slots.proofs.LookLaws.{value_at, got_is, got_out}
 
 same_key : (k : List ℕ) → eq_by_cmp key_cmp k k ≡ true
@@ -109,6 +109,11 @@ module _ {X : Type 0} where
           let m : j < length (page ps i) = a.slot_fits in
           let n : length (page qs i) ≡ length (page ps i) = ap length (h.entry.set d) ∙ length_set (page ps i) j (slice_index_or (page qs i) j d) in
           subst Q (sym h.set) (full_set ps i (page qs i) w.full (omega (arith, m, n)));
+      short =
+          let Q : List (List (List ℕ × X)) → Type 0 = λ rs. NoneLonger page_limit rs in
+          let most = page_short page_limit ps i w.short in
+          let n : length (page qs i) ≡ length (page ps i) = ap length (h.entry.set d) ∙ length_set (page ps i) j (slice_index_or (page qs i) j d) in
+          subst Q (sym h.set) (short_set page_limit ps i (page qs i) w.short (omega (arith, most, n)));
     }
 
     pub edited_here : at_key (all qs) t ≡ Some (slice_index_or (page qs i) j d).1

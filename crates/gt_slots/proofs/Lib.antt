@@ -4,6 +4,7 @@ pub mod SearchLaws
 pub mod PlaceLaws
 pub mod LookLaws
 pub mod EditLaws
+pub mod RoomLaws
 pub mod EntryLaws
 pub mod RemovalLaws
 pub mod SlotLaws

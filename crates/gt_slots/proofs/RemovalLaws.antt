@@ -1,5 +1,5 @@
 -- Pages without an entry.
-use Rattle.std.proofs.Common.{◌≡◌, ◌≢◌, ℕ, zero, suc, ◌<◌, Bool, true, false, cond, T, List, [], ◌∷◌, ◌++◌, length, take, drop, slice_index_or, slice_set, None, refl, sym, ap, ◌∙◌, subst, arith, append_assoc, length-append}
+use Rattle.std.proofs.Common.{◌≡◌, ◌≢◌, ℕ, zero, suc, ◌<◌, ◌≤◌, Bool, true, false, cond, T, List, [], ◌∷◌, ◌++◌, length, take, drop, slice_index_or, slice_set, None, refl, sym, ap, ◌∙◌, subst, arith, append_assoc, length-append}
 use Rattle.std.proofs.lemmas.List.{length-drop, length-take}
 use Rattle.std.specs.List.{remove}
 use Rattle.std.specs.Ordering.{is_lt, eq_by_cmp}
@@ -7,9 +7,9 @@ use Rattle.std.specs.FinMap.{is_sorted}
 use Rattle.std.specs.FinMap.Entries.{below_all}
 use Rattle.gt_model.specs.Contents.{key_cmp}
 use Rattle.gt_versions.proofs.Keys.{at_key, at_key-same, flip}
-use Rattle.gt_slots.specs.Pages.{all, AllBefore, NoneEmpty, IsWell, page, front, Inserts}
+use Rattle.gt_slots.specs.Pages.{all, page_limit, AllBefore, NoneEmpty, NoneLonger, IsWell, page, front, Inserts}
 use Rattle.gt_slots.proofs.SortLaws.{both, front_of, back_of, sorted_right, look_past, none_above}
-use Rattle.gt_slots.proofs.EditLaws.{full_set}
+use Rattle.gt_slots.proofs.EditLaws.{full_set, short_set, page_short}
 use Rattle.gt_slots.proofs.EntryLaws.{tail_at, all_at, others_by, some_entry}
 
 true_of : (b : Bool) → T b → b ≡ true
@@ -95,12 +95,18 @@ module _ {X : Type 0} where
   full_but (p ∷ ps) zero n = n.1
   full_but (p ∷ ps) (suc i) n = (n.0, full_but ps i n.1)
 
+  short_but : (n : ℕ) (ps : List (List (List ℕ × X))) (i : ℕ) → NoneLonger n ps → NoneLonger n (remove ps i)
+  short_but n [] zero h = tt
+  short_but n [] (suc i) h = tt
+  short_but n (p ∷ ps) zero h = h.1
+  short_but n (p ∷ ps) (suc i) h = (h.0, short_but n ps i h.1)
+
   module _ (ps qs : List (List (List ℕ × X))) (i j : ℕ) (w : IsWell ps) (l : i < length ps) (m : j < length (page ps i)) where
     inserts : all qs ≡ front ps i j ++ tail_at ps i j → (d : List ℕ × X) → Inserts (slice_index_or (page ps i) j d) (all qs) (all ps)
     inserts h d = record { left = front ps i j; right = tail_at ps i j; old = h; new = all_at ps i j d l m }
 
-    well : all qs ≡ front ps i j ++ tail_at ps i j → NoneEmpty qs → IsWell qs
-    well h full = record { sorted = removed_sorted (slice_index_or (page ps i) j (some_entry (page ps i) j m)) (all qs) (all ps) (inserts h (some_entry (page ps i) j m)) w.sorted; full = full }
+    well : all qs ≡ front ps i j ++ tail_at ps i j → NoneEmpty qs → NoneLonger page_limit qs → IsWell qs
+    well h full short = record { sorted = removed_sorted (slice_index_or (page ps i) j (some_entry (page ps i) j m)) (all qs) (all ps) (inserts h (some_entry (page ps i) j m)) w.sorted; full = full; short = short }
 
     page_all : qs ≡ remove ps i → length (page ps i) ≡ 1 → all qs ≡ front ps i j ++ tail_at ps i j
     page_all h n = ap all h ∙ all_but ps i j l m n
@@ -109,7 +115,10 @@ module _ {X : Type 0} where
     page_inserts h n = inserts (page_all h n)
 
     pub page_well : qs ≡ remove ps i → length (page ps i) ≡ 1 → IsWell qs
-    page_well h n = let P : List (List (List ℕ × X)) → Type 0 = λ rs. NoneEmpty rs in well (page_all h n) (subst P (sym h) (full_but ps i w.full))
+    page_well h n =
+        let P : List (List (List ℕ × X)) → Type 0 = λ rs. NoneEmpty rs in
+        let S : List (List (List ℕ × X)) → Type 0 = λ rs. NoneLonger page_limit rs in
+        well (page_all h n) (subst P (sym h) (full_but ps i w.full)) (subst S (sym h) (short_but page_limit ps i w.short))
 
     slot_all : qs ≡ slice_set ps i (remove (page ps i) j) → all qs ≡ front ps i j ++ tail_at ps i j
     slot_all h = ap all h ∙ all_without ps i j l
@@ -121,4 +130,7 @@ module _ {X : Type 0} where
     slot_well h n =
         let P : List (List (List ℕ × X)) → Type 0 = λ rs. NoneEmpty rs in
         let more : 0 < length (take j (page ps i) ++ drop (suc j) (page ps i)) = omega (arith, length-append (take j (page ps i)) (drop (suc j) (page ps i)), length-take j (page ps i), length-drop (suc j) (page ps i), m, n) in
-        well (slot_all h) (subst P (sym h) (full_set ps i (remove (page ps i) j) w.full more))
+        let S : List (List (List ℕ × X)) → Type 0 = λ rs. NoneLonger page_limit rs in
+        let most = page_short page_limit ps i w.short in
+        let less : length (take j (page ps i) ++ drop (suc j) (page ps i)) ≤ page_limit = omega (arith, length-append (take j (page ps i)) (drop (suc j) (page ps i)), length-take j (page ps i), length-drop (suc j) (page ps i), m, most) in
+        well (slot_all h) (subst P (sym h) (full_set ps i (remove (page ps i) j) w.full more)) (subst S (sym h) (short_set page_limit ps i (remove (page ps i) j) w.short less))

@@ -1,5 +1,6 @@
 -- Entries in the order of their keys, in pages.
 use Rattle.std.specs.Prelude.{◌≡◌, ℕ, zero, suc, ◌≤◌, ◌<◌, Bool, true, false, if◌then◌else◌, T, List, [], ◌∷◌, ◌++◌, length, take, drop, slice_index_or, slice_set, codes}
+use Rattle.std.specs.List.{insert}
 use Rattle.std.specs.Ordering.{is_lt}
 use Rattle.std.specs.FinMap.{is_sorted}
 use Rattle.gt_model.specs.Contents.{key_cmp}
@@ -10,6 +11,10 @@ probe text slash = if slash then text ++ codes "/" else text
 
 abbrev pub is_before : List ℕ → List ℕ → Bool
 is_before name t = is_lt (key_cmp name t)
+
+-- how many entries a page has at most
+abbrev pub page_limit : ℕ
+page_limit = 512
 
 module _ {X : Type 0} where
   -- the entries of all pages
@@ -36,10 +41,16 @@ module _ {X : Type 0} where
   NoneEmpty [] = Unit {0}
   NoneEmpty (p ∷ ps) = (0 < length p) × NoneEmpty ps
 
+  -- no page has more entries than this
+  abbrev pub NoneLonger : ℕ → List (List (List ℕ × X)) → Type 0
+  NoneLonger n [] = Unit {0}
+  NoneLonger n (p ∷ ps) = (length p ≤ n) × NoneLonger n ps
+
   -- pages in order
   pub record IsWell (ps : List (List (List ℕ × X))) : Type 0 where
     pub sorted : T (is_sorted key_cmp (all ps))
     pub full : NoneEmpty ps
+    pub short : NoneLonger page_limit ps
 
   -- the page of this index, none past the last
   abbrev pub page : List (List (List ℕ × X)) → ℕ → List (List ℕ × X)
@@ -64,6 +75,10 @@ module _ {X : Type 0} where
     pub lands : i < length ps → j < length (page ps i)
     pub before : AllBefore t (front ps i j)
     pub after : NoneBefore t (rest ps i j)
+
+  -- The page that an entry of this key goes into isn't full.
+  abbrev pub HasRoom : List ℕ → List (List (List ℕ × X)) → Type 0
+  HasRoom t ps = (i j : ℕ) → IsPlace t ps i j → i < length ps → length (page ps i) < page_limit
 
   -- A place at an entry of this key.
   pub record IsAt (t : List ℕ) (ps : List (List (List ℕ × X))) (i j : ℕ) : Type 0 where
@@ -90,6 +105,13 @@ module _ {X : Type 0} where
     pub whole : page new i ++ upper ≡ page old i
     pub lower_some : 0 < length (page new i)
     pub upper_some : 0 < length upper
+
+  -- The upper half of the page of this index is a page of its own behind it.
+  pub record IsSplit (i : ℕ) (old new : List (List (List ℕ × X))) : Type 0 where
+    pub upper : List (List ℕ × X)
+    pub lowered : List (List (List ℕ × X))
+    pub halved : IsHalved i upper old lowered
+    pub set : new ≡ insert lowered (suc i) upper
 
   -- One entry of one page keeps its key, and all others stay.
   pub record Edits (i j : ℕ) (old new : List (List (List ℕ × X))) : Type 0 where

@@ -1,13 +1,13 @@
-ghost use Rattle.std.specs.Prelude.{◌≡◌, ◌<◌, ◌≤◌, ◌∷◌, ◌++◌, [], None, true, OnOk, OnErr, IfOk, length, vec_len, vec_capacity};
+ghost use Rattle.std.specs.Prelude.{◌≡◌, ◌<◌, ◌≤◌, ◌-◌, ◌∷◌, ◌++◌, [], None, true, OnOk, OnErr, IfOk, nat_lt, length, vec_len, vec_capacity};
 ghost use Rattle.gt_versions.proofs.Keys.{at_key};
-ghost use Rattle.gt_slots.specs.Pages.{all, page, AllBefore, IsWell, IsPlace, IsHalved, Inserts};
+ghost use Rattle.gt_slots.specs.Pages.{all, page, page_limit, AllBefore, IsWell, IsPlace, HasRoom, IsHalved, IsSplit, Inserts};
 
 use crate::finding::{Place, find_place, page_at};
 use crate::page::{Page, Slot};
 use gt_list::NoMemory;
 use std::alloc::Global;
 
-/// How many references a page has before it is split.
+/// How many references a page has at most.
 const FULL: usize = 512;
 
 /// Adds a reference that isn't there yet.
@@ -24,9 +24,11 @@ pub(crate) fn insert_new(pages: &mut Vec<Page>, alloc: Global, slot: Slot) -> Re
     insert_in_order(pages, alloc, slot)
 }
 
+/// Adds a reference that isn't there yet, where its page isn't full.
 fn insert_in_order(pages: &mut Vec<Page>, alloc: Global, slot: Slot) -> Result<(), NoMemory>
     requires well { IsWell pages.old.items }
     requires new { at_key (all pages.old.items) slot.0 ≡ None }
+    requires room { HasRoom slot.0 pages.old.items }
     ensures well { IsWell pages.new.items }
     ensures ok { OnOk result (Inserts slot (all pages.old.items) (all pages.new.items)) }
     ensures err { OnErr result (all pages.new.items ≡ all pages.old.items) }
@@ -44,18 +46,26 @@ fn make_room(pages: &mut Vec<Page>, name: &[u8]) -> Result<(), NoMemory>
     requires { IsWell pages.old.items }
     ensures well { IsWell pages.new.items }
     ensures same { all pages.new.items ≡ all pages.old.items }
+    ensures ok { OnOk result (HasRoom name.now pages.new.items) }
 {
     let place = find_place(pages.as_slice(), name, false);
     match page_at(pages.as_slice(), place.page) {
         None => Ok(()),
         Some(found) => {
-            if found.len() < FULL {
+            if has_room(found) {
                 Ok(())
             } else {
                 split_page(pages, place.page)
             }
         }
     }
+}
+
+/// Whether a page isn't full.
+fn has_room(page: &Page) -> bool
+    ensures { result ≡ nat_lt (length page.now) page_limit }
+{
+    page.len() < FULL
 }
 
 /// Moves the upper half of a page into a new one behind it.
@@ -65,6 +75,7 @@ fn split_page(pages: &mut Vec<Page>, at: usize) -> Result<(), NoMemory>
     requires long { 2 ≤ length (page pages.old.items at) }
     ensures well { IsWell pages.new.items }
     ensures same { all pages.new.items ≡ all pages.old.items }
+    ensures ok { OnOk result (IsSplit at pages.old.items pages.new.items) }
 {
     if pages.reserve(1).is_err() {
         return Err(NoMemory);
@@ -99,6 +110,7 @@ fn insert_at(pages: &mut Vec<Page>, place: Place, slot: Slot) -> Result<(), NoMe
     requires place { IsPlace slot.0 pages.old.items place.page place.slot }
     requires fits { place.page < length pages.old.items }
     requires new { at_key (all pages.old.items) slot.0 ≡ None }
+    requires room { length (page pages.old.items place.page) < page_limit }
     ensures well { IsWell pages.new.items }
     ensures ok { OnOk result (Inserts slot (all pages.old.items) (all pages.new.items)) }
     ensures err { OnErr result (all pages.new.items ≡ all pages.old.items) }
@@ -126,17 +138,19 @@ fn push_last(pages: &mut Vec<Page>, alloc: Global, slot: Slot) -> Result<(), NoM
 
 /// Whether the last page isn't full.
 fn has_room_behind(pages: &[Page]) -> bool
-    ensures { result ≡ true → 0 < length pages.now }
+    ensures some { result ≡ true → 0 < length pages.now }
+    ensures room { result ≡ true → length (page pages.now (length pages.now - 1)) < page_limit }
 {
     match pages.last() {
         None => false,
-        Some(last) => last.len() < FULL,
+        Some(last) => has_room(last),
     }
 }
 
 fn push_in_last(pages: &mut Vec<Page>, slot: Slot) -> Result<(), NoMemory>
     requires well { IsWell pages.old.items }
     requires some { 0 < length pages.old.items }
+    requires room { length (page pages.old.items (length pages.old.items - 1)) < page_limit }
     requires last { AllBefore slot.0 (all pages.old.items) }
     ensures well { IsWell pages.new.items }
     ensures ok { OnOk result (all pages.new.items ≡ all pages.old.items ++ slot ∷ []) }

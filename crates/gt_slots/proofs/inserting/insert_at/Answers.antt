@@ -12,7 +12,7 @@ insert-requires c =
 
 pub returns-clause-well : goal.returns-clause-well
 returns-clause-well c =
-    well_after c.insert.result c.args.pages.now.items c.args.place.page c.args.place.slot c.args.slot.0 c.args.slot.1 c.in-Some.found.now c.insert.new.self (page_at c.args.pages.now.items c.args.place.page c.in-Some.found.now c.requires.fits ∙ sym c.in-Some.ensures.value) c.requires.well c.requires.place c.requires.fits c.requires.new c.insert.ensures.ok c.insert.ensures.err
+    well_after c.insert.result c.args.pages.now.items c.args.place.page c.args.place.slot c.args.slot.0 c.args.slot.1 c.in-Some.found.now c.insert.new.self (page_at c.args.pages.now.items c.args.place.page c.in-Some.found.now c.requires.fits ∙ sym c.in-Some.ensures.value) c.requires.well c.requires.place c.requires.fits c.requires.new c.requires.room c.insert.ensures.ok c.insert.ensures.err
 
 pub returns-clause-ok : goal.returns-clause-ok
 returns-clause-ok c = inserts_after c.insert.result c.args.pages.now.items c.args.place.page c.args.place.slot c.args.slot c.in-Some.found.now c.insert.new.self (page_at c.args.pages.now.items c.args.place.page c.in-Some.found.now c.requires.fits ∙ sym c.in-Some.ensures.value) c.requires.fits c.insert.ensures.ok
