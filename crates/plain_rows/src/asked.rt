@@ -1,5 +1,5 @@
-use crate::reading::{number, path_of};
 use gt_name::RepoPath;
+use row_words::{number, path_of};
 use std::alloc::Global;
 
 /// What most rows have behind their first words: `POSITION PATH`, and further words.

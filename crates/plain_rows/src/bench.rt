@@ -1,14 +1,13 @@
-use crate::entries::Pending;
-use gt_list::ListOf;
-use gt_model::{Entry, EntryList};
+use gt_model::Entry;
 use gt_objset::ObjSet;
 use gt_plain::PlainContent;
 use gt_reftable::RefTable;
 use gt_stage::Stage;
 use gt_table::Table;
+use row_words::Pending;
 use std::alloc::Global;
 
-/// What the rows work on: the parts of the next write, the entry in hand, what it is added to, entries in a row, and a stage.
+/// What the rows work on: the parts of the next write, the entry in hand, what it is added to, and a stage.
 #[derive(Drop)]
 pub(crate) struct Bench {
     pub(crate) pending: Pending,
@@ -17,7 +16,6 @@ pub(crate) struct Bench {
     pub(crate) objects: ObjSet,
     pub(crate) table: Table,
     pub(crate) content: PlainContent,
-    pub(crate) batch: EntryList,
     pub(crate) stage: Stage,
 }
 
@@ -34,7 +32,6 @@ impl Bench {
             objects,
             table,
             content: PlainContent::new(alloc),
-            batch: ListOf::new(alloc),
             stage: Stage::new(alloc),
         })
     }

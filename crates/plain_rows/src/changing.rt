@@ -1,13 +1,12 @@
 //! The rows that change something, and print nothing where all is well but what they are asked for.
 use crate::asked::asked_of;
 use crate::bench::Bench;
-use crate::entries::{add, change_of, prepare};
+use crate::entries::{add, prepare};
 use crate::numbered::many;
-use crate::reading::number;
 use crate::seeding::seed;
-use crate::shown::put;
 use crate::{looking, staging};
 use gt_model::Entry;
+use row_words::{change_of, number, put};
 use std::alloc::{AllocError, Global};
 use std::mem;
 

@@ -1,13 +1,13 @@
 //! Questions: `refs`, `objects`, `table`, `plain` or `look WHERE`, each with `QUESTION POSITION PATH [WORDS]`; `fits WHERE`,
-//! of the entry in hand; `verdict WHERE PATH`, `version`, `job` and `batch`. The plain model and `look` have the front alone.
+//! of the entry in hand; `verdict WHERE PATH` and `version`. The plain model and `look` have the front alone.
 use crate::asked::{Asked, asked_of};
 use crate::bench::Bench;
-use crate::reading::{name_of, ref_of};
 use crate::refs::{named, put_clash};
-use crate::shown::{put, put_is, put_path, put_value};
-use crate::{batches, jobs, objects, refs, table, verdicts, version};
+use crate::shown::put_path;
+use crate::{objects, refs, table, verdicts, version};
 use gt_model::Look;
 use gt_plain::PlainContent;
+use row_words::{name_of, put, put_is, put_value, ref_of};
 use std::alloc::{AllocError, Global};
 
 pub(crate) fn row(
@@ -21,8 +21,6 @@ pub(crate) fn row(
         "fits" => put(out, fits(bench, words).as_bytes()),
         "verdict" => verdicts::row(out, alloc, bench, words),
         "version" => version::row(out, alloc, words),
-        "job" => jobs::row(out, alloc, bench, words),
-        "batch" => batches::row(out, alloc, &bench.batch, words),
         _ => ask(out, alloc, bench, first, words),
     }
 }

@@ -1,17 +1,14 @@
 //! Reads rows, each a line of words, and prints what comes of it: entries are added to the tables and to the plain model,
-//! commits are staged, and questions are put to each of them. `reading` has the grammar of the words.
+//! commits are staged, and questions are put to each of them.
 #![tactic(auto)]
 
 mod asked;
-mod batches;
 mod bench;
 mod changing;
 mod entries;
-mod jobs;
 mod looking;
 mod numbered;
 mod objects;
-mod reading;
 mod refs;
 mod seeding;
 mod shown;
@@ -43,5 +40,5 @@ fn take_lines<R: Runtime>(rt: &R, alloc: Global, bench: &mut Bench) -> io::Resul
 fn take_line(rt: &impl Print, alloc: Global, bench: &mut Bench, line: &str) -> io::Result<()> {
     let mut out = Vec::new(alloc);
     changing::row(&mut out, alloc, bench, line)?;
-    shown::show(rt, &out)
+    row_words::show(rt, &out)
 }

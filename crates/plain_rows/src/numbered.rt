@@ -1,7 +1,6 @@
 //! Many of a kind, for the sizes at which something turns.
 use crate::bench::Bench;
-use crate::entries::{Pending, add_objects, add_refs};
-use crate::reading::{number, path_of};
+use crate::entries::{add_objects, add_refs};
 use crate::staging::{stage_update, word_of};
 use crate::table::add_table;
 use gt_list::ListOf;
@@ -12,6 +11,7 @@ use gt_objset::ObjSet;
 use gt_reftable::RefTable;
 use gt_stage::Stage;
 use gt_table::Table;
+use row_words::{Pending, number, path_of};
 use std::alloc::Global;
 
 /// The number of the item of an index: no two of 1,000,003 have the same.

@@ -2,11 +2,11 @@
 ghost use Rattle.std.specs.Prelude.{◌≤◌};
 
 use crate::asked::Asked;
-use crate::reading::name_of;
-use crate::shown::{put, put_is, put_names, put_path, put_paths, put_place};
+use crate::shown::{put_path, put_paths, put_place};
 use gt_list::NoMemory;
 use gt_name::{Names, Paths};
 use gt_objset::ObjSet;
+use row_words::{name_of, put, put_is, put_names};
 use std::alloc::{AllocError, Global};
 
 /// `place`, `has`, `repo`, `own`, `names`, `members`, `member` or `paths`, at a position.

@@ -2,11 +2,11 @@
 ghost use Rattle.std.specs.Prelude.{◌≤◌};
 
 use crate::asked::Asked;
-use crate::reading::{ref_of, refs_of};
-use crate::shown::{put, put_list, put_value};
+use crate::shown::put_list;
 use gt_list::ListOf;
 use gt_name::{Names2, RefName};
 use gt_reftable::RefTable;
+use row_words::{put, put_value, ref_of, refs_of};
 use std::alloc::{AllocError, Global};
 
 /// `get`, `list` or `clash`, at a position.

@@ -1,11 +1,11 @@
 //! What stands at the floor.
 use crate::asked::{Asked, asked_of};
 use crate::bench::Bench;
-use crate::reading::{name_of, number, path_of, ref_of};
 use gt_disk::FileId;
 use gt_list::NoMemory;
 use gt_objset::{ObjSet, Place};
 use gt_reftable::RefTable;
+use row_words::{name_of, number, path_of, ref_of};
 use std::alloc::Global;
 
 /// `ref FLOOR PATH NAME VALUE`, `repo FLOOR PATH [POOL]`, `pool FLOOR PATH`, or `object FLOOR PATH NAME NUMBER`: a record of

@@ -1,66 +1,9 @@
-//! What is printed: words with a space between each two.
-use gt_model::{RefList, RefUpdate, RefUpdates, Refusal};
-use gt_name::{Name, Names, Paths, RepoPath};
+//! What is printed of paths, references, updates and places.
+use gt_model::{RefList, RefUpdate, RefUpdates};
+use gt_name::{Paths, RepoPath};
 use gt_objset::Place;
-use gt_script::print_answer;
-use itoa::Buffer;
-use std::alloc::{AllocError, Global};
-use std::io;
-use std::io::Write;
-
-/// Of a longer line only the length and the SHA-1 are printed.
-const LONGEST: usize = 2_000;
-
-/// Prints the words of a row, if there are any.
-pub(crate) fn show(rt: &impl Print, words: &[u8]) -> io::Result<()> {
-    if words.is_empty() {
-        return Ok(());
-    }
-    if words.len() <= LONGEST {
-        io::writer(rt).write_all(words)?;
-    } else {
-        print!(rt; "{} bytes, SHA-1 ", words.len())?;
-        io::writer(rt).write_all(&Name::of_record(words).text())?;
-    }
-    println!(rt; "")
-}
-
-pub(crate) fn put(out: &mut Vec<u8>, word: &[u8]) -> Result<(), AllocError> {
-    if !out.is_empty() {
-        out.push(b' ')?;
-    }
-    out.extend_from_slice(word)
-}
-
-pub(crate) fn put_name(out: &mut Vec<u8>, name: &Name) -> Result<(), AllocError> {
-    put(out, &name.text())
-}
-
-pub(crate) fn put_number(out: &mut Vec<u8>, number: u64) -> Result<(), AllocError> {
-    let mut buffer = Buffer::new();
-    put(out, buffer.format(number).as_bytes())
-}
-
-pub(crate) fn put_is(out: &mut Vec<u8>, is: bool) -> Result<(), AllocError> {
-    put(out, if is { b"yes" } else { b"no" })
-}
-
-/// The name of an object, or `none`.
-pub(crate) fn put_value(out: &mut Vec<u8>, value: Option<Name>) -> Result<(), AllocError> {
-    match value {
-        Some(name) => put_name(out, &name),
-        None => put(out, b"none"),
-    }
-}
-
-/// How many names there are, and each.
-pub(crate) fn put_names(out: &mut Vec<u8>, names: &Names) -> Result<(), AllocError> {
-    put_number(out, names.len() as u64)?;
-    for name in names.as_slice() {
-        put_name(out, name)?;
-    }
-    Ok(())
-}
+use row_words::{put, put_name, put_number};
+use std::alloc::AllocError;
 
 /// How many paths there are, and each.
 pub(crate) fn put_paths(out: &mut Vec<u8>, paths: &Paths) -> Result<(), AllocError> {
@@ -96,18 +39,6 @@ fn put_update(out: &mut Vec<u8>, update: &RefUpdate) -> Result<(), AllocError> {
     match update.new {
         Some(new) => put_name(out, &new),
         None => put(out, b"-"),
-    }
-}
-
-/// The line of a refusal, as a script's answer has it.
-pub(crate) fn put_refusal(
-    out: &mut Vec<u8>,
-    alloc: Global,
-    refusal: Refusal,
-) -> Result<(), AllocError> {
-    match print_answer(alloc, &Err(refusal)) {
-        Ok(line) => put(out, line.trim_ascii_end()),
-        Err(_) => put(out, b"memory"),
     }
 }
 

@@ -1,10 +1,12 @@
 //! What is staged.
 use crate::numbered::{fill_stage, put_many, stage_many};
-use crate::reading::{name_of, number, record_of, ref_of, update_of};
-use crate::shown::{put, put_is, put_name, put_number, put_updates, put_value};
+use crate::shown::put_updates;
 use gt_model::{AddedRecords, RefUpdate};
 use gt_name::Name;
 use gt_stage::{Stage, StageError};
+use row_words::{
+    name_of, number, put, put_is, put_name, put_number, put_value, record_of, ref_of, update_of,
+};
 use std::alloc::{AllocError, Global};
 use std::mem;
 

@@ -5,10 +5,10 @@ ghost use Rattle.gt_table.specs.Table.{content};
 ghost use Rattle.gt_table.specs.Built.{is_built, IsBuilt};
 
 use crate::asked::Asked;
-use crate::reading::{name_of, ref_of};
-use crate::shown::{put, put_list, put_path, put_place, put_value};
+use crate::shown::{put_list, put_path, put_place};
 use gt_model::{Change, Entry};
 use gt_table::Table;
+use row_words::{name_of, put, put_value, ref_of};
 use std::alloc::{AllocError, Global};
 
 /// Whether a table takes entries of this kind.

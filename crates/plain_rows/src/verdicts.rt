@@ -1,11 +1,11 @@
 //! What a commit of the stage comes to.
 use crate::bench::Bench;
-use crate::reading::path_of;
-use crate::shown::{put, put_names, put_refusal, put_updates};
+use crate::shown::put_updates;
 use gt_model::{Look, RefUpdates, Refusal};
 use gt_name::{Names, RepoPath};
 use gt_plain::PlainContent;
 use gt_stage::Stage;
+use row_words::{path_of, put, put_names, put_refusal};
 use std::alloc::{AllocError, Global};
 
 /// `table PATH` and `quick PATH`, the verdict over the table and over the plain model, or `slow PATH`, the plain verdict.

@@ -1,9 +1,8 @@
 //! The values of one key: 20 from position 2 on, none from 5 on, and 90 from 9 on, where 91 is put in its place. And a key
 //! that is there from 3 on, until 6.
-use crate::reading::number;
-use crate::shown::{put, put_number};
 use gt_list::NoMemory;
 use gt_versions::{Versions, later_versions_leave_earlier_positions};
+use row_words::{number, put, put_number};
 use std::alloc::{AllocError, Global};
 
 fn steps(alloc: Global) -> Result<Versions<Option<u64>>, NoMemory> {

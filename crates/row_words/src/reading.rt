@@ -1,23 +1,23 @@
 //! Words of a row. A name of an object is 40 hex digits, or `0` for no object; a content is hex digits, or `-` for none.
 use gt_list::ListOf;
-use gt_model::{Job, RefUpdate};
+use gt_model::RefUpdate;
 use gt_name::{Name, Names, Names2, RefName, RepoPath};
 use gt_object::{Kind, Record};
 use std::alloc::Global;
 
-pub(crate) fn number(word: &str) -> Option<u64> {
+pub fn number(word: &str) -> Option<u64> {
     word.parse::<u64>().ok()
 }
 
-pub(crate) fn path_of(alloc: Global, word: &str) -> Option<RepoPath> {
+pub fn path_of(alloc: Global, word: &str) -> Option<RepoPath> {
     RepoPath::parse(alloc, word.as_bytes()).ok()
 }
 
-pub(crate) fn ref_of(alloc: Global, word: &str) -> Option<RefName> {
+pub fn ref_of(alloc: Global, word: &str) -> Option<RefName> {
     RefName::parse(alloc, word.as_bytes()).ok()
 }
 
-pub(crate) fn name_of(word: &str) -> Option<Name> {
+pub fn name_of(word: &str) -> Option<Name> {
     if word == "0" {
         return Some(Name::ZERO);
     }
@@ -25,7 +25,7 @@ pub(crate) fn name_of(word: &str) -> Option<Name> {
 }
 
 /// References, each word one.
-pub(crate) fn refs_of(alloc: Global, words: &str) -> Option<Names2> {
+pub fn refs_of(alloc: Global, words: &str) -> Option<Names2> {
     let mut list = ListOf::new(alloc);
     for word in words.split(' ') {
         list.push(ref_of(alloc, word)?).ok()?;
@@ -34,7 +34,7 @@ pub(crate) fn refs_of(alloc: Global, words: &str) -> Option<Names2> {
 }
 
 /// Names of objects, each word one.
-pub(crate) fn names_of(alloc: Global, words: &str) -> Option<Names> {
+pub fn names_of(alloc: Global, words: &str) -> Option<Names> {
     let mut list = ListOf::new(alloc);
     if words.is_empty() {
         return Some(list);
@@ -45,18 +45,8 @@ pub(crate) fn names_of(alloc: Global, words: &str) -> Option<Names> {
     Some(list)
 }
 
-pub(crate) fn job_of(word: &str) -> Option<Job> {
-    match word {
-        "repack" => Some(Job::Repack),
-        "prune" => Some(Job::Prune),
-        "packrefs" => Some(Job::PackRefs),
-        "unlink" => Some(Job::Unlink),
-        _ => None,
-    }
-}
-
 /// `REFERENCE OLD NEW`, an update, or `REFERENCE OLD -`, a check.
-pub(crate) fn update_of(alloc: Global, words: &str) -> Option<RefUpdate> {
+pub fn update_of(alloc: Global, words: &str) -> Option<RefUpdate> {
     let (name, values) = words.split_once(' ')?;
     let (old, new) = values.split_once(' ')?;
     let new = aim_of(new)?;
@@ -83,7 +73,7 @@ fn kind_of(word: &str) -> Option<Kind> {
 }
 
 /// `KIND CONTENT`.
-pub(crate) fn record_of(alloc: Global, words: &str) -> Option<Record> {
+pub fn record_of(alloc: Global, words: &str) -> Option<Record> {
     let (kind, content) = words.split_once(' ')?;
     let kind = kind_of(kind)?;
     if content == "-" {
