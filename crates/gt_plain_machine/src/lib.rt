@@ -2,15 +2,29 @@
 //! are still needed. They are slow, and for small states.
 #![tactic(auto)]
 
+mod applying;
+mod changes;
+mod committing;
+mod effects;
+mod ending;
 mod files;
 mod filing;
+mod named;
 mod numbers;
+mod pins;
 mod placing;
+mod positions;
+mod recovering;
 mod shelf;
 mod shelves;
+mod state;
+mod transactions;
 
+pub use effects::PlainEffect;
 pub use filing::{PlainFiling, PlainTaken};
 pub use numbers::PlainNumbers;
 pub use placing::filed_all;
+pub use recovering::{opening, unapplied};
 pub use shelf::PlainShelf;
 pub use shelves::PlainShelves;
+pub use state::{PlainApplying, PlainPin, PlainPins, PlainRecovered, PlainState, PlainWork};
