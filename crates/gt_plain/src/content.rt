@@ -1,4 +1,4 @@
-ghost use Rattle.std.specs.Prelude.{◌≡◌, find, OnOk, OnErr};
+ghost use Rattle.std.specs.Prelude.{◌≡◌, find, map as map_list, IfOk, OnOk, OnErr};
 ghost use Rattle.std.specs.Option.{option_copied, option_map};
 ghost use Rattle.std.specs.BTreeMap.{IsOrdered};
 ghost use Rattle.std.specs.FinMap as map;
@@ -75,6 +75,13 @@ impl PlainContent {
         ensures { option_copied result ≡ least_member self.now pool.now }
     {
         least_with_pool(&self.repos, pool)
+    }
+
+    /// The paths of the repositories, ascending.
+    pub fn paths(&self, alloc: Global) -> Result<Vec<RepoPath>, NoMemory>
+        ensures { IfOk result (λ v. v.items ≡ map.keys self.now) }
+    {
+        paths_of(alloc, &self.repos)
     }
 
     /// Whether the content has the path.
@@ -166,4 +173,15 @@ fn least_with_pool<'a>(
         }
     }
     None
+}
+
+fn paths_of(alloc: Global, repos: &BTreeMap<RepoPath, PlainRepo>) -> Result<Vec<RepoPath>, NoMemory>
+    ensures paths { IfOk result (λ v. v.items ≡ map_list (λ e. e.0) repos.now.entries) }
+    ensures ordered { IsOrdered key_cmp repos.now }
+{
+    let mut paths = Vec::new(alloc);
+    for path in repos.keys() {
+        paths.push(path.clone()?)?;
+    }
+    Ok(paths)
 }

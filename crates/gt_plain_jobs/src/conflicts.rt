@@ -29,7 +29,7 @@ pub fn is_kin(content: &PlainContent, path: &RepoPath, other: &RepoPath) -> bool
 }
 
 /// Whether a repository has this pool.
-fn has_pool(content: &PlainContent, path: &RepoPath, pool: &RepoPath) -> bool
+pub(crate) fn has_pool(content: &PlainContent, path: &RepoPath, pool: &RepoPath) -> bool
     ensures { result ≡ is_this (pool_of content.now path.now) pool.now }
 {
     match content.pool_of(path) {

@@ -10,7 +10,7 @@ use gt_name::{Name, RefName, RepoPath};
 use gt_plain::PlainContent;
 use std::alloc::Global;
 
-fn sum(one: usize, other: usize) -> Result<usize, NoMemory>
+pub(crate) fn sum(one: usize, other: usize) -> Result<usize, NoMemory>
     ensures { IfOk result (λ n. n ≡ one + other) }
 {
     match one.checked_add(other) {
@@ -60,7 +60,7 @@ fn units_of(
     Ok(units)
 }
 
-fn refs_of(
+pub(crate) fn refs_of(
     alloc: Global,
     content: &PlainContent,
     path: &RepoPath,
