@@ -1,5 +1,5 @@
 -- What an effect comes to, and where that ends.
-use Rattle.std.proofs.Common.{◌≡◌, ℕ, Bool, true, false, ◌&&◌, ◌||◌, nat_eq, List, [], ◌∷◌, refl, sym, subst, Result, T}
+use Rattle.std.proofs.Common.{◌≡◌, ℕ, Bool, true, false, ◌&&◌, ◌||◌, nat_eq, List, [], ◌∷◌, refl, sym, subst, Result, Ok, Err, IfOk}
 use Rattle.gt_model.specs.declared.done.Done.{Done}
 use Rattle.gt_model.specs.declared.refusal.Refusal.{Refusal}
 use Rattle.gt_model.specs.Machine.{State, Pin, Effect, refuses, answers, adds, opens, works, applies, removes, by_units, by_dropped, Ends, is_live, is_live_as}
@@ -29,8 +29,13 @@ ends (opens p) end s answer new is done = subst (λ (f : Effect). Ends f s answe
 ends (works pin n) end s answer new is done = subst (λ (f : Effect). Ends f s answer new) (sym is) done
 ends (applies a) end s answer new is done = subst (λ (f : Effect). Ends f s answer new) (sym is) done
 ends (removes floor d) end s answer new is done = subst (λ (f : Effect). Ends f s answer new) (sym is) done
-ends (by_units c path job more) end s answer new is done = (is.0, (is.1.0, ends (more is.0) end s answer new is.1.1 done))
-ends (by_dropped c path job more) end s answer new is done = (is.0, (is.1.0, ends (more is.0) end s answer new is.1.1 done))
+ends (by_units c path job more) end s answer new is done = (is.0, is.1, ends (more is.0) end s answer new is.2 done)
+ends (by_dropped c path job more) end s answer new is done = (is.0, is.1, ends (more is.0) end s answer new is.2 done)
+
+-- the same where there is an answer
+pub ends_ok : {E : Type 0} (r : Result (Result Done Refusal) E) (e end : Effect) (s new : State) → ComesTo e end → IfOk r (λ answer. Ends end s answer new) → IfOk r (λ answer. Ends e s answer new)
+ends_ok (Ok answer) e end s new is done = ends e end s answer new is done
+ends_ok (Err error) e end s new is done = tt
 
 -- what is live of a kind is live
 pub live : (kind : Pin → Bool) (pins : List Pin) (number : ℕ) → is_live_as kind pins number ≡ true → is_live pins number ≡ true

@@ -52,13 +52,13 @@ impl PlainState {
         alloc: Global,
         limits: &Limits,
         number: u8,
-        content: &PlainContent,
+        seen: &PlainContent,
         refs: &RefUpdates,
         records: &AddedRecords,
         verdict: Result<PlainReady, Refusal>,
     ) -> Result<PlainEffect, NoMemory>
         requires live { is_live (as_state self.now).pins number ≡ true }
-        requires content { content.now ≡ content (as_state self.now) }
+        requires seen { seen.now ≡ content (as_state self.now) }
         ensures { IfOk result (λ e. as_effect e ≡ committed limits.now (as_state self.now) number (staged refs.now records.now) (answer verdict)) }
     {
         let ready = match verdict {
@@ -71,7 +71,7 @@ impl PlainState {
         if self.is_full(limits) {
             return self.refused(Refusal::LogFull);
         }
-        self.written(alloc, number, content, refs, records, ready)
+        self.written(alloc, number, seen, refs, records, ready)
     }
 
     /// The entry of a good commit, with its pin gone.

@@ -38,12 +38,7 @@ impl PlainState {
     }
 
     /// The entry joins the log.
-    fn end_entry(
-        &mut self,
-        entry: Entry,
-        done: Done,
-        pins: PlainPins,
-    ) -> Result<Answer, NoMemory>
+    fn end_entry(&mut self, entry: Entry, done: Done, pins: PlainPins) -> Result<Answer, NoMemory>
         ensures ends { IfOk result (λ answer. Ends (adds entry done pins) (as_state self.old) answer (as_state self.new)) }
         ensures sure { self.old.doubt ≡ None → self.new.doubt ≡ None }
         ensures same { OnErr result (self.new ≡ self.old) }

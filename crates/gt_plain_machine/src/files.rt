@@ -1,4 +1,5 @@
 ghost use Rattle.std.specs.Prelude.{◌≡◌, [], ◌∷◌, ◌++◌, map as map_list, OnOk};
+ghost use Rattle.std.specs.FinMap as map;
 ghost use Rattle.gt_model.specs.NamedFiles.{file, file_if, shelf_files};
 
 use crate::PlainShelf;
@@ -37,6 +38,14 @@ pub(crate) fn add_each(files: &mut Vec<FileId>, kind: u8, numbers: &[u64]) -> Re
     Ok(())
 }
 
+/// The files of a repository's loose references.
+fn add_loose(alloc: Global, files: &mut Vec<FileId>, shelf: &PlainShelf) -> Result<(), NoMemory>
+    ensures { OnOk result (files.new.items ≡ files.old.items ++ map_list (λ r. file 7 r.1) (map.entries shelf.now.refs)) }
+{
+    let numbers = shelf.loose(alloc)?;
+    add_each(files, 7, &numbers)
+}
+
 /// The files of a repository.
 pub(crate) fn add_shelf(
     alloc: Global,
@@ -47,5 +56,6 @@ pub(crate) fn add_shelf(
 {
     add_each(files, 5, shelf.packs())?;
     add_if(files, 6, shelf.packed())?;
-    add_each(files, 7, &shelf.loose(alloc)?)
+    add_loose(alloc, files, shelf)?;
+    Ok(())
 }

@@ -80,6 +80,16 @@ impl PlainFiling {
         Ok(PlainFiling { shelves, taken })
     }
 
+    /// As it is at an opening: no pack was taken out since.
+    pub fn opened(self, alloc: Global) -> PlainFiling
+        ensures { result ≡ record self { taken = [] } }
+    {
+        PlainFiling {
+            shelves: self.shelves,
+            taken: Vec::new(alloc),
+        }
+    }
+
     /// The files of each repository.
     pub fn shelves(&self) -> &PlainShelves
         ensures { result.now ≡ self.now.shelves }
@@ -134,22 +144,7 @@ pub(crate) fn with_shelf(
     })
 }
 
-/// With packs that the entry at this position took out.
-fn with_taken(
-    filing: PlainFiling,
-    position: u64,
-    numbers: &[u64],
-) -> Result<PlainFiling, NoMemory>
-    ensures { IfOk result (λ f. f ≡ record filing { taken = filing.taken ++ map_list (λ n. record { position = position; number = n }) numbers.now }) }
-{
-    let mut taken = filing.taken;
-    add_taken(&mut taken, position, numbers)?;
-    Ok(PlainFiling {
-        shelves: filing.shelves,
-        taken,
-    })
-}
-
+/// Adds packs that the entry at this position took out.
 fn add_taken(taken: &mut Vec<PlainTaken>, position: u64, numbers: &[u64]) -> Result<(), NoMemory>
     ensures { OnOk result (taken.new.items ≡ taken.old.items ++ map_list (λ n. record { position = position; number = n }) numbers.now) }
 {
@@ -174,6 +169,9 @@ pub(crate) fn filed(
     let shelf = filing.shelf_at(alloc, &path)?;
     let out = taken_out(alloc, &entry.change, &shelf)?;
     let shelf = rearranged(alloc, &entry.change, shelf)?;
-    let filing = with_shelf(filing, path, shelf)?;
-    with_taken(filing, entry.position, &out)
+    let mut shelves = filing.shelves;
+    shelves.set(path, shelf)?;
+    let mut taken = filing.taken;
+    add_taken(&mut taken, entry.position, &out)?;
+    Ok(PlainFiling { shelves, taken })
 }

@@ -9,6 +9,7 @@ mod effects;
 mod ending;
 mod files;
 mod filing;
+mod housing;
 mod named;
 mod numbers;
 mod pins;
@@ -18,6 +19,7 @@ mod recovering;
 mod shelf;
 mod shelves;
 mod state;
+mod step;
 mod transactions;
 
 pub use effects::PlainEffect;

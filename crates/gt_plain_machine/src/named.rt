@@ -133,7 +133,9 @@ impl PlainState {
     {
         let count = applying.position.saturating_sub(self.applied);
         let entries = first_of(self.entries_past(self.applied), count);
-        let number = applying.next.saturating_sub(new_files(alloc, entries)? as u64);
+        let number = applying
+            .next
+            .saturating_sub(new_files(alloc, entries)? as u64);
         let next = filed_all(alloc, number, entries, filing.copy(alloc)?)?;
         let Some(epoch) = self.epoch.checked_add(1) else {
             return Err(NoMemory);

@@ -1,4 +1,4 @@
-ghost use Rattle.std.specs.Prelude.{◌≡◌, filter, map as map_list, nat_le, IfOk, OnOk};
+ghost use Rattle.std.specs.Prelude.{◌≡◌, filter, map as map_list, nat_le, IfOk, OnOk, OnErr};
 ghost use Rattle.std.specs.BTreeMap.{IsOrdered};
 ghost use Rattle.std.specs.FinMap as map;
 ghost use Rattle.gt_model.specs.Contents.{key_cmp};
@@ -43,7 +43,8 @@ impl PlainNumbers {
 
     /// Sets the number of a name.
     pub fn set(&mut self, name: Text, number: u64) -> Result<(), NoMemory>
-        ensures { OnOk result (self.new ≡ map.insert self.old name number) }
+        ensures ok { OnOk result (self.new ≡ map.insert self.old name number) }
+        ensures err { OnErr result (self.new ≡ self.old) }
     {
         self.tree.insert(name, number)?;
         Ok(())
@@ -80,10 +81,8 @@ fn add_missing(tree: &mut BTreeMap<Text, u64>, name: Text, number: u64) -> Resul
     if tree.contains_key(&name) {
         return Ok(());
     }
-    match tree.insert(name, number) {
-        Ok(_) => Ok(()),
-        Err(_) => Err(NoMemory),
-    }
+    tree.insert(name, number)?;
+    Ok(())
 }
 
 fn copied(alloc: Global, tree: &BTreeMap<Text, u64>) -> Result<BTreeMap<Text, u64>, NoMemory>

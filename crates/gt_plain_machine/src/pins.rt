@@ -104,11 +104,7 @@ pub(crate) fn free_number(pins: &[PlainPin]) -> Result<u8, NoMemory>
 }
 
 /// Without the one of this number.
-pub(crate) fn released(
-    alloc: Global,
-    pins: &[PlainPin],
-    number: u8,
-) -> Result<PlainPins, NoMemory>
+pub(crate) fn released(alloc: Global, pins: &[PlainPin], number: u8) -> Result<PlainPins, NoMemory>
     ensures { IfOk result (λ list. list ≡ released pins.now number) }
 {
     let mut left = ListOf::new(alloc);

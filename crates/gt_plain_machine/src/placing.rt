@@ -28,12 +28,7 @@ fn past_repo(alloc: Global, number: u64, entries: &[Entry]) -> Result<u64, NoMem
 }
 
 /// The number behind the new files at a path.
-fn past_path(
-    alloc: Global,
-    number: u64,
-    path: &Text,
-    entries: &[Entry],
-) -> Result<u64, NoMemory>
+fn past_path(alloc: Global, number: u64, path: &Text, entries: &[Entry]) -> Result<u64, NoMemory>
     ensures { IfOk result (λ n. n ≡ number + length (files_at path.now entries.now)) }
 {
     let files = files_at(alloc, path, entries)?;

@@ -19,12 +19,21 @@ fn next_number(next: u64, log: &[Entry]) -> Result<u64, NoMemory>
     }
 }
 
+fn copy_of(entry: &Entry) -> Result<Entry, NoMemory>
+    ensures { IfOk result (λ e. e ≡ entry.now) }
+{
+    match entry.clone() {
+        Ok(entry) => Ok(entry),
+        Err(_) => Err(NoMemory),
+    }
+}
+
 fn copies_of(alloc: Global, entries: &[Entry]) -> Result<EntryList, NoMemory>
     ensures { IfOk result (λ list. list ≡ entries.now) }
 {
     let mut copies = ListOf::new(alloc);
     for entry in entries {
-        copies.push(entry.clone()?)?;
+        copies.push(copy_of(entry)?)?;
     }
     Ok(copies)
 }

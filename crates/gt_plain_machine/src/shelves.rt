@@ -1,4 +1,4 @@
-ghost use Rattle.std.specs.Prelude.{◌≡◌, ◌++◌, map as map_list, IfOk, OnOk};
+ghost use Rattle.std.specs.Prelude.{◌≡◌, ◌++◌, map as map_list, IfOk, OnOk, OnErr};
 ghost use Rattle.std.specs.List.{flat_map};
 ghost use Rattle.std.specs.Option.{option_copied};
 ghost use Rattle.std.specs.BTreeMap.{IsOrdered};
@@ -55,7 +55,8 @@ impl PlainShelves {
 
     /// Sets the files at a path.
     pub fn set(&mut self, path: Text, shelf: PlainShelf) -> Result<(), NoMemory>
-        ensures { OnOk result (self.new ≡ map.insert self.old path shelf) }
+        ensures ok { OnOk result (self.new ≡ map.insert self.old path shelf) }
+        ensures err { OnErr result (self.new ≡ self.old) }
     {
         self.tree.insert(path, shelf)?;
         Ok(())
@@ -102,7 +103,11 @@ fn copied(
 {
     let mut copy = BTreeMap::new(alloc);
     for (path, shelf) in tree.iter() {
-        add_missing(&mut copy, Text::of(alloc, path.bytes())?, shelf.copy(alloc)?)?;
+        add_missing(
+            &mut copy,
+            Text::of(alloc, path.bytes())?,
+            shelf.copy(alloc)?,
+        )?;
     }
     Ok(copy)
 }

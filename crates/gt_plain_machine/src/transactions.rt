@@ -83,8 +83,7 @@ impl PlainState {
         ensures { IfOk result (λ e. as_effect e ≡ effect limits.now (as_state self.now) (ListRefs number prefix.now)) }
     {
         let content = self.content_of(alloc, number)?;
-        let refs = refs_of(alloc, &content, self.pin(number).path())?;
-        let list = with_prefix(alloc, &refs, prefix)?;
+        let list = references(alloc, &content, self.pin(number).path(), prefix)?;
         self.answered(Done::Refs { list })
     }
 
@@ -144,12 +143,21 @@ fn refs_of(
     }
 }
 
-/// Those whose names begin so.
-fn with_prefix(
+/// Those of a repository whose names begin so, ascending.
+fn references(
     alloc: Global,
-    refs: &[(RefName, Name)],
+    content: &PlainContent,
+    path: &RepoPath,
     prefix: &[u8],
 ) -> Result<RefList, NoMemory>
+    ensures { IfOk result (λ list. list ≡ references (refs_in content.now path.now) prefix.now) }
+{
+    let refs = refs_of(alloc, content, path)?;
+    with_prefix(alloc, &refs, prefix)
+}
+
+/// Those whose names begin so.
+fn with_prefix(alloc: Global, refs: &[(RefName, Name)], prefix: &[u8]) -> Result<RefList, NoMemory>
     ensures { IfOk result (λ list. list ≡ map_list (λ e. record { name = e.0; value = e.1 }) (filter (λ e. starts_with nat_eq e.0 prefix.now) refs.now)) }
 {
     let mut list = ListOf::new(alloc);

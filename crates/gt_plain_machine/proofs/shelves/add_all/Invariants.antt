@@ -3,5 +3,5 @@ use Rattle.gt_model.specs.NamedFiles.{shelf_files}
 use Rattle.gt_plain_machine.proofs.shelves.add_all.Given as goal
 
 -- what was added, and what is left to add
-abbrev pub invariant-loop-_path : goal.invariant-loop-_path
-invariant-loop-_path l = l.files.items ++ flat_map (λ e. shelf_files e.1) l._path-iterator ≡ l.initial.files.items ++ flat_map (λ e. shelf_files e.1) l.tree.entries
+abbrev pub invariant-loop-path : goal.invariant-loop-path
+invariant-loop-path l = l.files.items ++ flat_map (λ e. shelf_files e.1) l._path-iterator ≡ l.initial.files.items ++ flat_map (λ e. shelf_files e.1) l.tree.entries
