@@ -1,6 +1,7 @@
 ghost use Rattle.std.specs.Prelude.{◌≡◌, ◌+◌, IfOk};
-ghost use Rattle.gt_model.specs.declared.event.Event.TheVariants.{Apply, Trim, Sweep};
-ghost use Rattle.gt_model.specs.Machine.{effect, applied_by};
+ghost use Rattle.gt_model.specs.declared.done.Done.TheVariants.{Trimmed, Swept};
+ghost use Rattle.gt_model.specs.declared.event.Event.TheVariants.{Apply};
+ghost use Rattle.gt_model.specs.Machine.{effect, removes, low_water, applied_by};
 ghost use Rattle.gt_plain_machine.specs.States.{as_state, as_effect};
 
 use crate::positions::first_of;
@@ -55,19 +56,17 @@ impl PlainState {
     }
 
     /// What a trim comes to.
-    pub(crate) fn trim(&self, limits: &Limits) -> PlainEffect
-        ensures { as_effect result ≡ effect limits.now (as_state self.now) Trim }
+    pub(crate) fn trim(&self) -> PlainEffect
+        ensures { let s = as_state self.now in as_effect result ≡ removes (low_water s) (Trimmed (low_water s)) }
     {
-        let _ = limits;
         let low = self.low_water();
         PlainEffect::Removes(low, Done::Trimmed { low })
     }
 
     /// What a sweep comes to.
-    pub(crate) fn sweep(&self, limits: &Limits) -> PlainEffect
-        ensures { as_effect result ≡ effect limits.now (as_state self.now) Sweep }
+    pub(crate) fn sweep(&self) -> PlainEffect
+        ensures { as_effect result ≡ removes (as_state self.now).floor Swept }
     {
-        let _ = limits;
         PlainEffect::Removes(self.floor, Done::Swept)
     }
 }

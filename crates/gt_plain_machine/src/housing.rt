@@ -1,8 +1,9 @@
-ghost use Rattle.std.specs.Prelude.{◌≡◌, Some, true, false, IfOk};
-ghost use Rattle.gt_model.specs.declared.event.Event.TheVariants.{HouseOpen, HouseStep, HouseCommit};
+ghost use Rattle.std.specs.Prelude.{◌≡◌, Some, true, false, if◌then◌else◌, IfOk};
+ghost use Rattle.gt_model.specs.declared.done.Done.TheVariants.{Step};
+ghost use Rattle.gt_model.specs.declared.event.Event.TheVariants.{HouseOpen, HouseCommit};
 ghost use Rattle.gt_model.specs.Conflicts.{is_unlink};
 ghost use Rattle.gt_model.specs.Jobs.{job_change};
-ghost use Rattle.gt_model.specs.Machine.{effect, is_live, opened_job, opens, free_number};
+ghost use Rattle.gt_model.specs.Machine.{effect, answers, works, pin_of, is_ready_job, is_live, opened_job, opens, free_number};
 ghost use Rattle.gt_plain_machine.specs.States.{as_state, as_effect, ComesTo, closed_with};
 
 use crate::pins::{free_number, is_ready_job, work_of};
@@ -102,12 +103,10 @@ impl PlainState {
         &self,
         number: u8,
         count: u32,
-        limits: &Limits,
     ) -> Result<PlainEffect, NoMemory>
         requires { is_live (as_state self.now).pins number ≡ true }
-        ensures { IfOk result (λ e. as_effect e ≡ effect limits.now (as_state self.now) (HouseStep number count)) }
+        ensures { let s = as_state self.now in IfOk result (λ e. as_effect e ≡ (if is_ready_job (pin_of s number) then answers (Step true) s.pins else works number count)) }
     {
-        let _ = limits;
         if is_ready_job(self.pin(number)) {
             return self.answered(Done::Step { ready: true });
         }

@@ -1,84 +1,19 @@
-ghost use Rattle.std.specs.Prelude.{◌≡◌, ℕ, [], ◌∷◌, ◌++◌, Some, nat_lt, filter, map as map_list, OnOk, IfOk};
+ghost use Rattle.std.specs.Prelude.{◌≡◌, ℕ, [], ◌∷◌, ◌++◌, Some, map as map_list, OnOk, IfOk};
 ghost use Rattle.std.specs.List.{flat_map};
-ghost use Rattle.gt_model.specs.NamedFiles.{file, manifest_files, job_file, change_files, entry_files, doubt_files, work_files, turning_files, named_files};
+ghost use Rattle.gt_model.specs.NamedFiles.{file, manifest_files, job_file, doubt_files, work_files, turning_files, named_files};
 ghost use Rattle.gt_model.specs.Machine.{entries_past, low_water};
 ghost use Rattle.gt_plain_machine.specs.States.{as_state};
 
-use crate::files::{add_file, add_if};
 use crate::positions::first_of;
-use crate::{PlainApplying, PlainFiling, PlainPin, PlainState, PlainTaken, PlainWork, filed_all};
+use crate::{PlainApplying, PlainPin, PlainState, PlainWork};
 use gt_disk::FileId;
 use gt_list::NoMemory;
-use gt_model::{Change, Entry, Job};
+use gt_model::{Entry, Job};
+use gt_plain_files::{
+    PlainFiling, add_entries, add_entry, add_file, add_manifest, add_taken, add_whole, filed_all,
+};
 use gt_plain_jobs::new_files;
 use std::alloc::Global;
-
-/// The manifest of an epoch and what it names.
-fn add_manifest(
-    alloc: Global,
-    files: &mut Vec<FileId>,
-    epoch: u64,
-    filing: &PlainFiling,
-) -> Result<(), NoMemory>
-    ensures { OnOk result (files.new.items ≡ files.old.items ++ manifest_files epoch filing.now) }
-{
-    add_if(files, 3, epoch)?;
-    filing.shelves().add_files(alloc, files)
-}
-
-/// The entries' own files.
-fn add_entries(files: &mut Vec<FileId>, entries: &[Entry]) -> Result<(), NoMemory>
-    ensures { OnOk result (files.new.items ≡ files.old.items ++ map_list (λ e. file 4 e.position) entries.now) }
-{
-    for entry in entries {
-        add_file(files, 4, entry.position)?;
-    }
-    Ok(())
-}
-
-fn add_change(files: &mut Vec<FileId>, change: &Change) -> Result<(), NoMemory>
-    ensures { OnOk result (files.new.items ≡ files.old.items ++ change_files change.now) }
-{
-    match change {
-        Change::Repack { file, dropped: _ } => add_file(files, 5, *file),
-        Change::Prune { file, dropped: _ } => add_file(files, 5, *file),
-        Change::PackRefs { file } => add_file(files, 6, *file),
-        Change::Unlink { file } => add_file(files, 5, *file),
-        Change::Create { .. } => Ok(()),
-        Change::Delete => Ok(()),
-        Change::Link { .. } => Ok(()),
-        Change::Write { .. } => Ok(()),
-    }
-}
-
-/// An entry's own file and the one that it names.
-fn add_entry(files: &mut Vec<FileId>, entry: &Entry) -> Result<(), NoMemory>
-    ensures { OnOk result (files.new.items ≡ files.old.items ++ entry_files entry.now) }
-{
-    add_file(files, 4, entry.position)?;
-    add_change(files, &entry.change)
-}
-
-fn add_whole(files: &mut Vec<FileId>, entries: &[Entry]) -> Result<(), NoMemory>
-    ensures { OnOk result (files.new.items ≡ files.old.items ++ flat_map entry_files entries.now) }
-{
-    for entry in entries {
-        add_entry(files, entry)?;
-    }
-    Ok(())
-}
-
-/// The packs that were taken out past the low water.
-fn add_taken(files: &mut Vec<FileId>, low: u64, taken: &[PlainTaken]) -> Result<(), NoMemory>
-    ensures { OnOk result (files.new.items ≡ files.old.items ++ map_list (λ t. file 5 t.number) (filter (λ t. nat_lt low t.position) taken.now)) }
-{
-    for item in taken {
-        if low < item.position() {
-            add_file(files, 5, item.number())?;
-        }
-    }
-    Ok(())
-}
 
 /// The kind of a job's file.
 fn kind_of(job: Job) -> u8

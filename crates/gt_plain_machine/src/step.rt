@@ -52,22 +52,21 @@ impl PlainState {
             Event::Delete { path } => self.delete(alloc, limits, path),
             Event::Link { path, pool } => self.link(alloc, limits, path, pool),
             Event::Begin { path, seen } => self.begin(alloc, limits, path, *seen),
-            Event::GetRef { pin, name } => self.get_ref(alloc, *pin, name, limits),
+            Event::GetRef { pin, name } => self.get_ref(alloc, *pin, name),
             Event::ListRefs { pin, prefix } => self.list_refs(
                 alloc,
                 *pin,
                 prefix.as_slice(),
-                limits,
             ),
-            Event::Cat { pin, name } => self.cat(alloc, *pin, name, limits),
+            Event::Cat { pin, name } => self.cat(alloc, *pin, name),
             Event::Commit { pin, refs, records } => self.commit(alloc, limits, *pin, refs, records),
-            Event::Abort { pin } => self.abort(alloc, *pin, limits),
+            Event::Abort { pin } => self.abort(alloc, *pin),
             Event::HouseOpen { path, job } => self.house_open(alloc, limits, path, *job),
-            Event::HouseStep { pin, n } => self.house_step(*pin, *n, limits),
+            Event::HouseStep { pin, n } => self.house_step(*pin, *n),
             Event::HouseCommit { pin } => self.house_commit(alloc, limits, *pin),
             Event::Apply { n } => self.apply(alloc, limits, *n),
-            Event::Trim => Ok(self.trim(limits)),
-            Event::Sweep => Ok(self.sweep(limits)),
+            Event::Trim => Ok(self.trim()),
+            Event::Sweep => Ok(self.sweep()),
         }
     }
 

@@ -1,10 +1,11 @@
-ghost use Rattle.std.specs.Prelude.{◌≡◌, true, filter, map as map_list, IfOk};
+ghost use Rattle.std.specs.Prelude.{◌≡◌, true, nat_eq, filter, map as map_list, IfOk};
 ghost use Rattle.std.specs.List.{starts_with};
-ghost use Rattle.std.specs.Prelude.{nat_eq};
 ghost use Rattle.std.specs.FinMap as map;
-ghost use Rattle.gt_model.specs.declared.event.Event.TheVariants.{Begin, GetRef, ListRefs, Cat, Abort};
+ghost use Rattle.gt_model.specs.declared.done.Done.TheVariants.{Value, Refs, Aborted};
+ghost use Rattle.gt_model.specs.declared.event.Event.TheVariants.{Begin};
+ghost use Rattle.gt_model.specs.Contents.{value, found};
 ghost use Rattle.gt_model.specs.Verdicts.{refs_in};
-ghost use Rattle.gt_model.specs.Machine.{effect, is_live, references, content_of, released};
+ghost use Rattle.gt_model.specs.Machine.{effect, answers, object, is_live, pin_of, references, content_of, released};
 ghost use Rattle.gt_plain_machine.specs.States.{as_state, as_effect};
 
 use crate::pins::{free_number, released};
@@ -61,10 +62,9 @@ impl PlainState {
         alloc: Global,
         number: u8,
         name: &RefName,
-        limits: &Limits,
     ) -> Result<PlainEffect, NoMemory>
         requires { is_live (as_state self.now).pins number ≡ true }
-        ensures { IfOk result (λ e. as_effect e ≡ effect limits.now (as_state self.now) (GetRef number name.now)) }
+        ensures { let s = as_state self.now in IfOk result (λ e. as_effect e ≡ answers (Value (value (content_of s number) (pin_of s number).path name.now)) s.pins) }
     {
         let content = self.content_of(alloc, number)?;
         let value = content.value(self.pin(number).path(), name);
@@ -77,10 +77,9 @@ impl PlainState {
         alloc: Global,
         number: u8,
         prefix: &[u8],
-        limits: &Limits,
     ) -> Result<PlainEffect, NoMemory>
         requires { is_live (as_state self.now).pins number ≡ true }
-        ensures { IfOk result (λ e. as_effect e ≡ effect limits.now (as_state self.now) (ListRefs number prefix.now)) }
+        ensures { let s = as_state self.now in IfOk result (λ e. as_effect e ≡ answers (Refs (references (refs_in (content_of s number) (pin_of s number).path) prefix.now)) s.pins) }
     {
         let content = self.content_of(alloc, number)?;
         let list = references(alloc, &content, self.pin(number).path(), prefix)?;
@@ -93,10 +92,9 @@ impl PlainState {
         alloc: Global,
         number: u8,
         name: &Name,
-        limits: &Limits,
     ) -> Result<PlainEffect, NoMemory>
         requires { is_live (as_state self.now).pins number ≡ true }
-        ensures { IfOk result (λ e. as_effect e ≡ effect limits.now (as_state self.now) (Cat number name.now)) }
+        ensures { let s = as_state self.now in IfOk result (λ e. as_effect e ≡ object (found (content_of s number) (pin_of s number).path name.now) name.now s.pins) }
     {
         let content = self.content_of(alloc, number)?;
         match content.found(self.pin(number).path(), name) {
@@ -108,15 +106,9 @@ impl PlainState {
     }
 
     /// What the end of a transaction or a job that is given up comes to.
-    pub(crate) fn abort(
-        &self,
-        alloc: Global,
-        number: u8,
-        limits: &Limits,
-    ) -> Result<PlainEffect, NoMemory>
-        ensures { IfOk result (λ e. as_effect e ≡ effect limits.now (as_state self.now) (Abort number)) }
+    pub(crate) fn abort(&self, alloc: Global, number: u8) -> Result<PlainEffect, NoMemory>
+        ensures { let s = as_state self.now in IfOk result (λ e. as_effect e ≡ answers Aborted (released s.pins number)) }
     {
-        let _ = limits;
         let pins = self.released(alloc, number)?;
         Ok(PlainEffect::Answers(Done::Aborted, pins))
     }

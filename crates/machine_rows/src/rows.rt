@@ -7,7 +7,8 @@ use crate::reading::{added_of, update_of};
 use crate::shown::{put, put_answer, put_files, put_number};
 use gt_list::NoMemory;
 use gt_model::{Answer, Done, Event};
-use gt_plain_machine::{PlainFiling, PlainState, filed_all, opening};
+use gt_plain_files::{PlainFiling, filed_all};
+use gt_plain_machine::{PlainState, opening};
 use std::alloc::{AllocError, Global};
 use std::mem;
 
