@@ -8,7 +8,7 @@ use crate::PlainRepo;
 use gt_list::NoMemory;
 use gt_name::{Name, RefName, RepoPath};
 use gt_object::Record;
-use std::alloc::Global;
+use std::alloc::{AllocError, Global};
 use std::collections::BTreeMap;
 use std::marker::Model;
 
@@ -28,6 +28,15 @@ impl Model for PlainContent {
     ghost coded = { content_code };
 
     ghost view = { λ c. map.from_entries c.repos.entries };
+}
+
+impl Clone for PlainContent {
+    ghost is_clone = { λ a b. b ≡ a };
+
+    fn clone(&self) -> Result<PlainContent, AllocError> {
+        let repos = self.repos.clone()?;
+        Ok(PlainContent { repos })
+    }
 }
 
 impl PlainContent {

@@ -17,7 +17,7 @@ mod repo;
 
 pub use commit::{PlainReady, verdict};
 pub use content::PlainContent;
-pub use needs::{ascending, deps_of};
+pub use needs::{added_records, ascending, deps_of};
 pub use own::PlainOwn;
 pub use refs::PlainRefs;
 pub use repo::PlainRepo;

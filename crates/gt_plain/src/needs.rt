@@ -50,7 +50,7 @@ fn by_name(alloc: Global, records: &[Added]) -> Result<BTreeMap<Name, Added>, No
 }
 
 /// The staged records that aren't visible, ascending by name.
-pub(crate) fn added_records(
+pub fn added_records(
     alloc: Global,
     content: &PlainContent,
     path: &RepoPath,
