@@ -4,7 +4,7 @@ use gt_bytes::{
     FieldError, get_name, get_text, get_u8, get_u16, get_u32, get_u64, put_name, put_text, put_u8,
     put_u16, put_u32, put_u64, read_word,
 };
-use gt_list::{ListOf, NoMemory, Roomy};
+use gt_list::{ListOf, NoMemory, ReservedVec};
 use std::alloc::Global;
 use std::io;
 
@@ -123,7 +123,7 @@ pub(crate) fn room_row(rt: &impl Print, alloc: Global, bytes: &[u8]) -> io::Resu
     let [first, second, ..] = bytes else {
         return println!(rt; "no two bytes");
     };
-    let mut list = Roomy::new(alloc);
+    let mut list = ReservedVec::new(alloc);
     match list.reserve(2) {
         Ok(()) => {
             list.add(*first);

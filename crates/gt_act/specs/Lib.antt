@@ -1,4 +1,4 @@
-pub mod Book
+pub mod PartitionState
 pub mod Cat
 pub mod Causes
 pub mod Ended

@@ -1,24 +1,24 @@
 ghost use Rattle.std.specs.Prelude.{◌≡◌, true};
 ghost use Rattle.gt_model.specs.declared.event.Event.{Event};
 ghost use Rattle.gt_model.specs.Machine.{Step, is_live, released};
-ghost use Rattle.gt_act.specs.Book.{state_of};
+ghost use Rattle.gt_act.specs.PartitionState.{state_of};
 ghost use Rattle.gt_act.specs.Ended.{answer_of};
 ghost use Rattle.gt_act.specs.declared.ended.Ended.{Ended as End};
 
-use crate::book::Book;
 use crate::ended::Ended;
+use crate::partition_state::PartitionState;
 use gt_model::Limits;
 use gt_pins::Pin;
 
 /// Gives a transaction up. It takes no memory.
-pub fn abort(limits: &Limits, book: &mut Book, pin: &Pin) -> Ended
-    requires { is_live book.old.live pin.now ≡ true }
-    ensures step { Step limits.now (state_of book.old) (Event.Abort pin.now) (answer_of result) (state_of book.new) }
+pub fn abort(limits: &Limits, state: &mut PartitionState, pin: &Pin) -> Ended
+    requires { is_live state.old.live pin.now ≡ true }
+    ensures step { Step limits.now (state_of state.old) (Event.Abort pin.now) (answer_of result) (state_of state.new) }
     ensures always { result ≡ End.Aborted }
-    ensures live { book.new.live ≡ released book.old.live pin.now }
-    ensures log { book.new.journal.log ≡ book.old.journal.log }
-    ensures doubt { book.new.journal.doubt ≡ book.old.journal.doubt }
+    ensures live { state.new.live ≡ released state.old.live pin.now }
+    ensures log { state.new.journal.log ≡ state.old.journal.log }
+    ensures doubt { state.new.journal.doubt ≡ state.old.journal.doubt }
 {
-    book.live.release(pin);
+    state.live.release(pin);
     Ended::Aborted
 }

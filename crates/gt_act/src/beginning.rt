@@ -1,15 +1,15 @@
 ghost use Rattle.std.specs.Prelude.{◌≡◌, ◌≤◌, ◌<◌, ◌+◌, length, false, IsTrue, None};
 ghost use Rattle.gt_model.specs.declared.event.Event.{Event};
 ghost use Rattle.gt_model.specs.Machine.{Step, Acts, is_faulty, free_number};
-ghost use Rattle.gt_act.specs.Book.{state_of};
+ghost use Rattle.gt_act.specs.PartitionState.{state_of};
 ghost use Rattle.gt_act.specs.declared.ended.Ended.{Ended as End};
 ghost use Rattle.gt_act.specs.Causes.{CallCause, settling_calls};
 ghost use Rattle.gt_act.specs.Ended.{answer_of};
 ghost use Rattle.gt_act.specs.Live.{GivesPin};
 ghost use Rattle.gt_base.specs.Histories.{Moves};
 
-use crate::book::Book;
 use crate::ended::Ended;
+use crate::partition_state::PartitionState;
 use gt_disk::{Disk, Failed};
 use gt_model::Limits;
 use gt_name::RepoPath;
@@ -18,52 +18,52 @@ use gt_pins::Pin;
 /// Settles what is in doubt, and then begins a transaction at the front.
 pub fn begin<D: Disk>(
     limits: &Limits,
-    book: &mut Book,
+    state: &mut PartitionState,
     disk: &mut D,
     path: &RepoPath,
     seen: u64,
 ) -> (Ended, Option<Pin>)
-    ensures step { Step limits.now (state_of book.old) (Event.Begin path.now seen) (answer_of result.0) (state_of book.new) }
-    ensures one { length book.new.live ≤ length book.old.live + 1 }
-    ensures gives { GivesPin (answer_of result.0) result.1 (free_number book.old.live) }
+    ensures step { Step limits.now (state_of state.old) (Event.Begin path.now seen) (answer_of result.0) (state_of state.new) }
+    ensures one { length state.new.live ≤ length state.old.live + 1 }
+    ensures gives { GivesPin (answer_of result.0) result.1 (free_number state.old.live) }
     ensures cause { CallCause (D.fault_count disk.old) (D.fault_count disk.new) (answer_of result.0) }
-    ensures counted { D.call_count disk.new ≤ D.call_count disk.old + settling_calls book.old.journal.doubt }
-    ensures moves { IsTrue D.tells → Moves limits.now (state_of book.old) (state_of book.new) (D.view disk.old) (D.view disk.new) }
+    ensures counted { D.call_count disk.new ≤ D.call_count disk.old + settling_calls state.old.journal.doubt }
+    ensures moves { IsTrue D.tells → Moves limits.now (state_of state.old) (state_of state.new) (D.view disk.old) (D.view disk.new) }
 {
-    if let Err(Failed) = book.journal.settle(disk) {
+    if let Err(Failed) = state.journal.settle(disk) {
         return (Ended::DeviceFault, None);
     }
-    begin_settled(limits, book, path, seen)
+    begin_settled(limits, state, path, seen)
 }
 
 /// Begins a transaction at the front, where nothing is in doubt.
 fn begin_settled(
     limits: &Limits,
-    book: &mut Book,
+    state: &mut PartitionState,
     path: &RepoPath,
     seen: u64,
 ) -> (Ended, Option<Pin>)
-    requires { book.old.journal.doubt ≡ None }
-    ensures acts { Acts limits.now (state_of book.old) (Event.Begin path.now seen) (answer_of result.0) (state_of book.new) }
-    ensures one { length book.new.live ≤ length book.old.live + 1 }
-    ensures gives { GivesPin (answer_of result.0) result.1 (free_number book.old.live) }
-    ensures log { book.new.journal.log ≡ book.old.journal.log }
-    ensures doubt { book.new.journal.doubt ≡ book.old.journal.doubt }
-    ensures behind { length book.old.journal.log < seen → result.0 ≡ End.Behind seen (length book.old.journal.log) }
-    ensures full { seen ≤ length book.old.journal.log → limits.now.pins ≤ length book.old.live → result.0 ≡ End.PinsFull }
+    requires { state.old.journal.doubt ≡ None }
+    ensures acts { Acts limits.now (state_of state.old) (Event.Begin path.now seen) (answer_of result.0) (state_of state.new) }
+    ensures one { length state.new.live ≤ length state.old.live + 1 }
+    ensures gives { GivesPin (answer_of result.0) result.1 (free_number state.old.live) }
+    ensures log { state.new.journal.log ≡ state.old.journal.log }
+    ensures doubt { state.new.journal.doubt ≡ state.old.journal.doubt }
+    ensures behind { length state.old.journal.log < seen → result.0 ≡ End.Behind seen (length state.old.journal.log) }
+    ensures full { seen ≤ length state.old.journal.log → limits.now.pins ≤ length state.old.live → result.0 ≡ End.PinsFull }
     ensures sure { is_faulty (answer_of result.0) ≡ false }
 {
-    let front = book.journal.table().front();
+    let front = state.journal.table().front();
     if front < seen {
         return (Ended::Behind { seen, front }, None);
     }
-    let Ok(number) = book.live.free_number(limits.pins) else {
+    let Ok(number) = state.live.free_number(limits.pins) else {
         return (Ended::PinsFull, None);
     };
-    if !book.journal.table().has_repo(path) {
+    if !state.journal.table().has_repo(path) {
         return (Ended::NoRepository, None);
     }
-    match book.live.begin(number, front, path) {
+    match state.live.begin(number, front, path) {
         Ok(pin) => (Ended::Begun { position: front }, Some(pin)),
         Err(_) => (Ended::Memory, None),
     }

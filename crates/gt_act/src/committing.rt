@@ -2,7 +2,7 @@ ghost use Rattle.std.specs.Prelude.{◌≡◌, ◌≤◌, ◌⊎◌, ◌+◌, le
 ghost use Rattle.gt_model.specs.declared.event.Event.{Event};
 ghost use Rattle.gt_model.specs.declared.done.Done.TheVariants.{Committed};
 ghost use Rattle.gt_model.specs.Machine.{Step, Acts, Ends, adds, pin_of, is_live, is_empty, released};
-ghost use Rattle.gt_act.specs.Book.{state_of};
+ghost use Rattle.gt_act.specs.PartitionState.{state_of};
 ghost use Rattle.gt_act.specs.Causes.{CallCause, settling_calls};
 ghost use Rattle.gt_act.specs.Ended.{answer_of, IsKeptOf};
 ghost use Rattle.gt_act.specs.declared.ended.Ended.{Ended as End};
@@ -11,8 +11,8 @@ ghost use Rattle.gt_model.specs.Contents.{nothing, after_all};
 ghost use Rattle.gt_write.specs.Checking.{IsChecked, IsGoodWrite};
 ghost use Rattle.gt_table.specs.Built.{IsBuilt};
 
-use crate::book::Book;
 use crate::ended::Ended;
+use crate::partition_state::PartitionState;
 use crate::reply::Reply;
 use gt_disk::{Disk, Failed};
 use gt_log::LogError;
@@ -26,40 +26,40 @@ use std::alloc::Global;
 pub fn commit<D: Disk>(
     alloc: Global,
     limits: &Limits,
-    book: &mut Book,
+    state: &mut PartitionState,
     disk: &mut D,
     pin: &Pin,
     stage: &Stage,
 ) -> Reply
-    requires { is_live book.old.live pin.now ≡ true }
-    ensures step { Step limits.now (state_of book.old) (Event.Commit pin.now stage.now.staged.refs stage.now.staged.records) result.answer (state_of book.new) }
-    ensures kept { IsKeptOf (state_of book.old) (Event.Commit pin.now stage.now.staged.refs stage.now.staged.records) result }
-    ensures fewer { length book.new.live ≤ length book.old.live }
+    requires { is_live state.old.live pin.now ≡ true }
+    ensures step { Step limits.now (state_of state.old) (Event.Commit pin.now stage.now.staged.refs stage.now.staged.records) result.answer (state_of state.new) }
+    ensures kept { IsKeptOf (state_of state.old) (Event.Commit pin.now stage.now.staged.refs stage.now.staged.records) result }
+    ensures fewer { length state.new.live ≤ length state.old.live }
     ensures cause { CallCause (D.fault_count disk.old) (D.fault_count disk.new) result.answer }
-    ensures counted { D.call_count disk.new ≤ D.call_count disk.old + settling_calls book.old.journal.doubt + 4 }
-    ensures moves { IsTrue D.tells → Moves limits.now (state_of book.old) (state_of book.new) (D.view disk.old) (D.view disk.new) }
+    ensures counted { D.call_count disk.new ≤ D.call_count disk.old + settling_calls state.old.journal.doubt + 4 }
+    ensures moves { IsTrue D.tells → Moves limits.now (state_of state.old) (state_of state.new) (D.view disk.old) (D.view disk.new) }
 {
     // a law, which does nothing
-    book.live.are_transactions();
+    state.live.are_transactions();
     if stage.is_empty() {
-        return Reply::of(finish(book, pin));
+        return Reply::of(finish(state, pin));
     }
-    if let Err(Failed) = book.journal.settle(disk) {
+    if let Err(Failed) = state.journal.settle(disk) {
         return Reply::of(Ended::DeviceFault);
     }
-    commit_settled(alloc, limits, book, disk, pin, stage)
+    commit_settled(alloc, limits, state, disk, pin, stage)
 }
 
 /// Ends a transaction that has staged nothing.
-fn finish(book: &mut Book, pin: &Pin) -> Ended
-    requires { is_live book.old.live pin.now ≡ true }
-    ensures answer { result ≡ End.Finished (pin_of (state_of book.old) pin.now).position }
-    ensures log { book.new.journal.log ≡ book.old.journal.log }
-    ensures doubt { book.new.journal.doubt ≡ book.old.journal.doubt }
-    ensures live { book.new.live ≡ released book.old.live pin.now }
+fn finish(state: &mut PartitionState, pin: &Pin) -> Ended
+    requires { is_live state.old.live pin.now ≡ true }
+    ensures answer { result ≡ End.Finished (pin_of (state_of state.old) pin.now).position }
+    ensures log { state.new.journal.log ≡ state.old.journal.log }
+    ensures doubt { state.new.journal.doubt ≡ state.old.journal.doubt }
+    ensures live { state.new.live ≡ released state.old.live pin.now }
 {
-    let position = book.live.get(pin).position;
-    book.live.release(pin);
+    let position = state.live.get(pin).position;
+    state.live.release(pin);
     Ended::Finished { position }
 }
 
@@ -67,25 +67,25 @@ fn finish(book: &mut Book, pin: &Pin) -> Ended
 fn commit_settled<D: Disk>(
     alloc: Global,
     limits: &Limits,
-    book: &mut Book,
+    state: &mut PartitionState,
     disk: &mut D,
     pin: &Pin,
     stage: &Stage,
 ) -> Reply
-    requires settled { book.old.journal.doubt ≡ None }
-    requires live { is_live book.old.live pin.now ≡ true }
+    requires settled { state.old.journal.doubt ≡ None }
+    requires live { is_live state.old.live pin.now ≡ true }
     requires staged { is_empty stage.now.staged.refs stage.now.staged.records ≡ false }
-    ensures acts { Acts limits.now (state_of book.old) (Event.Commit pin.now stage.now.staged.refs stage.now.staged.records) result.answer (state_of book.new) }
-    ensures kept { IsKeptOf (state_of book.old) (Event.Commit pin.now stage.now.staged.refs stage.now.staged.records) result }
-    ensures fewer { length book.new.live ≤ length book.old.live }
+    ensures acts { Acts limits.now (state_of state.old) (Event.Commit pin.now stage.now.staged.refs stage.now.staged.records) result.answer (state_of state.new) }
+    ensures kept { IsKeptOf (state_of state.old) (Event.Commit pin.now stage.now.staged.refs stage.now.staged.records) result }
+    ensures fewer { length state.new.live ≤ length state.old.live }
     ensures cause { CallCause (D.fault_count disk.old) (D.fault_count disk.new) result.answer }
     ensures counted { D.call_count disk.new ≤ D.call_count disk.old + 4 }
-    ensures moves { IsTrue D.tells → Moves limits.now (state_of book.old) (state_of book.new) (D.view disk.old) (D.view disk.new) }
+    ensures moves { IsTrue D.tells → Moves limits.now (state_of state.old) (state_of state.new) (D.view disk.old) (D.view disk.new) }
 {
-    match check(alloc, limits, book, pin, stage) {
-        Checked::Good(entry) => Reply::of(add_write(alloc, limits, book, disk, pin, entry)),
+    match check(alloc, limits, state, pin, stage) {
+        Checked::Good(entry) => Reply::of(add_write(alloc, limits, state, disk, pin, entry)),
         Checked::Refused { answer, kept } => {
-            book.live.release(pin);
+            state.live.release(pin);
             Reply::refused(answer, kept)
         }
         Checked::Full => Reply::of(Ended::LogFull),
@@ -94,12 +94,18 @@ fn commit_settled<D: Disk>(
 }
 
 /// Checks what a transaction has staged against the content at the front.
-fn check(alloc: Global, limits: &Limits, book: &Book, pin: &Pin, stage: &Stage) -> Checked
-    requires { is_live book.now.live pin.now ≡ true }
-    ensures { IsChecked limits.now (length book.now.journal.log) (after_all nothing book.now.journal.log) (pin_of (state_of book.now) pin.now).path stage.now.staged result }
+fn check(
+    alloc: Global,
+    limits: &Limits,
+    state: &PartitionState,
+    pin: &Pin,
+    stage: &Stage,
+) -> Checked
+    requires { is_live state.now.live pin.now ≡ true }
+    ensures { IsChecked limits.now (length state.now.journal.log) (after_all nothing state.now.journal.log) (pin_of (state_of state.now) pin.now).path stage.now.staged result }
 {
-    let live = book.live.get(pin);
-    let table = book.journal.table();
+    let live = state.live.get(pin);
+    let table = state.journal.table();
     check_commit(alloc, limits, table.front(), table, &live.path, stage)
 }
 
@@ -107,29 +113,29 @@ fn check(alloc: Global, limits: &Limits, book: &Book, pin: &Pin, stage: &Stage) 
 fn add_write<D: Disk>(
     alloc: Global,
     limits: &Limits,
-    book: &mut Book,
+    state: &mut PartitionState,
     disk: &mut D,
     pin: &Pin,
     entry: Entry,
 ) -> Ended
-    requires settled { book.old.journal.doubt ≡ None }
-    requires live { is_live book.old.live pin.now ≡ true }
+    requires settled { state.old.journal.doubt ≡ None }
+    requires live { is_live state.old.live pin.now ≡ true }
     requires built { IsBuilt entry }
-    requires good { IsGoodWrite limits.now (length book.old.journal.log) (after_all nothing book.old.journal.log) entry }
-    ensures adds { Ends (adds entry (Committed entry.position) (released book.old.live pin.now)) (state_of book.old) (answer_of result) (state_of book.new) ⊎ (((result ≡ End.Memory) ⊎ (result ≡ End.DeviceFault)) × (state_of book.new ≡ state_of book.old)) }
-    ensures fewer { length book.new.live ≤ length book.old.live }
+    requires good { IsGoodWrite limits.now (length state.old.journal.log) (after_all nothing state.old.journal.log) entry }
+    ensures adds { Ends (adds entry (Committed entry.position) (released state.old.live pin.now)) (state_of state.old) (answer_of result) (state_of state.new) ⊎ (((result ≡ End.Memory) ⊎ (result ≡ End.DeviceFault)) × (state_of state.new ≡ state_of state.old)) }
+    ensures fewer { length state.new.live ≤ length state.old.live }
     ensures cause { CallCause (D.fault_count disk.old) (D.fault_count disk.new) (answer_of result) }
     ensures counted { D.call_count disk.new ≤ D.call_count disk.old + 4 }
-    ensures moves { IsTrue D.tells → Moves limits.now (state_of book.old) (state_of book.new) (D.view disk.old) (D.view disk.new) }
+    ensures moves { IsTrue D.tells → Moves limits.now (state_of state.old) (state_of state.new) (D.view disk.old) (D.view disk.new) }
 {
     let position = entry.position;
-    match book.journal.add(alloc, limits, disk, entry) {
+    match state.journal.add(alloc, limits, disk, entry) {
         Ok(()) => {
-            book.live.release(pin);
+            state.live.release(pin);
             Ended::Committed { position }
         }
         Err(LogError::Unsure) => {
-            book.live.release(pin);
+            state.live.release(pin);
             Ended::Unsure { position }
         }
         Err(LogError::Untouched) => Ended::DeviceFault,

@@ -2,14 +2,14 @@ ghost use Rattle.std.specs.Prelude.{◌≡◌, ◌≤◌, ◌+◌, IsTrue, None,
 ghost use Rattle.gt_model.specs.declared.event.Event.{Event};
 ghost use Rattle.gt_model.specs.Machine.{Step, Acts};
 ghost use Rattle.gt_model.specs.Contents.{nothing, after_all, has_repo};
-ghost use Rattle.gt_act.specs.Book.{state_of};
+ghost use Rattle.gt_act.specs.PartitionState.{state_of};
 ghost use Rattle.gt_act.specs.declared.ended.Ended.{Ended as End};
 ghost use Rattle.gt_act.specs.Causes.{CallCause, settling_calls};
 ghost use Rattle.gt_act.specs.Ended.{answer_of};
 ghost use Rattle.gt_base.specs.Histories.{Moves};
 
-use crate::book::Book;
 use crate::ended::Ended;
+use crate::partition_state::PartitionState;
 use gt_disk::{Disk, Failed};
 use gt_log::LogError;
 use gt_model::{Change, Entry, Limits};
@@ -20,45 +20,45 @@ use std::alloc::Global;
 pub fn create<D: Disk>(
     alloc: Global,
     limits: &Limits,
-    book: &mut Book,
+    state: &mut PartitionState,
     disk: &mut D,
     path: &RepoPath,
     pool: bool,
 ) -> Ended
-    ensures step { Step limits.now (state_of book.old) (Event.Create path.now pool) (answer_of result) (state_of book.new) }
-    ensures pins { book.new.live ≡ book.old.live }
+    ensures step { Step limits.now (state_of state.old) (Event.Create path.now pool) (answer_of result) (state_of state.new) }
+    ensures pins { state.new.live ≡ state.old.live }
     ensures cause { CallCause (D.fault_count disk.old) (D.fault_count disk.new) (answer_of result) }
-    ensures counted { D.call_count disk.new ≤ D.call_count disk.old + settling_calls book.old.journal.doubt + 4 }
-    ensures moves { IsTrue D.tells → Moves limits.now (state_of book.old) (state_of book.new) (D.view disk.old) (D.view disk.new) }
+    ensures counted { D.call_count disk.new ≤ D.call_count disk.old + settling_calls state.old.journal.doubt + 4 }
+    ensures moves { IsTrue D.tells → Moves limits.now (state_of state.old) (state_of state.new) (D.view disk.old) (D.view disk.new) }
 {
-    if let Err(Failed) = book.journal.settle(disk) {
+    if let Err(Failed) = state.journal.settle(disk) {
         return Ended::DeviceFault;
     }
-    create_settled(alloc, limits, book, disk, path, pool)
+    create_settled(alloc, limits, state, disk, path, pool)
 }
 
 /// Makes a repository, or a pool, where nothing is in doubt.
 fn create_settled<D: Disk>(
     alloc: Global,
     limits: &Limits,
-    book: &mut Book,
+    state: &mut PartitionState,
     disk: &mut D,
     path: &RepoPath,
     pool: bool,
 ) -> Ended
-    requires { book.old.journal.doubt ≡ None }
-    ensures acts { Acts limits.now (state_of book.old) (Event.Create path.now pool) (answer_of result) (state_of book.new) }
-    ensures pins { book.new.live ≡ book.old.live }
+    requires { state.old.journal.doubt ≡ None }
+    ensures acts { Acts limits.now (state_of state.old) (Event.Create path.now pool) (answer_of result) (state_of state.new) }
+    ensures pins { state.new.live ≡ state.old.live }
     ensures cause { CallCause (D.fault_count disk.old) (D.fault_count disk.new) (answer_of result) }
     ensures counted { D.call_count disk.new ≤ D.call_count disk.old + 4 }
-    ensures exists { has_repo (after_all nothing book.old.journal.log) path.now ≡ true → result ≡ End.RepositoryExists }
-    ensures full { has_repo (after_all nothing book.old.journal.log) path.now ≡ false → limits.now.positions ≤ length book.old.journal.log → result ≡ End.LogFull }
-    ensures moves { IsTrue D.tells → Moves limits.now (state_of book.old) (state_of book.new) (D.view disk.old) (D.view disk.new) }
+    ensures exists { has_repo (after_all nothing state.old.journal.log) path.now ≡ true → result ≡ End.RepositoryExists }
+    ensures full { has_repo (after_all nothing state.old.journal.log) path.now ≡ false → limits.now.positions ≤ length state.old.journal.log → result ≡ End.LogFull }
+    ensures moves { IsTrue D.tells → Moves limits.now (state_of state.old) (state_of state.new) (D.view disk.old) (D.view disk.new) }
 {
-    if book.journal.table().has_repo(path) {
+    if state.journal.table().has_repo(path) {
         return Ended::RepositoryExists;
     }
-    let front = book.journal.table().front();
+    let front = state.journal.table().front();
     if limits.positions <= front {
         return Ended::LogFull;
     }
@@ -71,7 +71,7 @@ fn create_settled<D: Disk>(
         path,
         change: Change::Create { pool },
     };
-    match book.journal.add(alloc, limits, disk, entry) {
+    match state.journal.add(alloc, limits, disk, entry) {
         Ok(()) => Ended::Created { position, pool },
         Err(LogError::Untouched) => Ended::DeviceFault,
         Err(LogError::Unsure) => Ended::Unsure { position },

@@ -4,14 +4,14 @@ ghost use Rattle.gt_model.specs.declared.refusal.Refusal.{Refusal as Why};
 ghost use Rattle.gt_model.specs.Contents.{nothing, after_all, has_repo, least_member};
 ghost use Rattle.gt_model.specs.Histories.{kept};
 ghost use Rattle.gt_model.specs.Machine.{Step, Acts};
-ghost use Rattle.gt_act.specs.Book.{state_of};
+ghost use Rattle.gt_act.specs.PartitionState.{state_of};
 ghost use Rattle.gt_act.specs.Causes.{CallCause, settling_calls};
 ghost use Rattle.gt_act.specs.Ended.{answer_of, IsKeptOf};
 ghost use Rattle.gt_act.specs.declared.ended.Ended.{Ended as End};
 ghost use Rattle.gt_base.specs.Histories.{Moves};
 
-use crate::book::Book;
 use crate::ended::Ended;
+use crate::partition_state::PartitionState;
 use crate::reply::Reply;
 use gt_disk::{Disk, Failed};
 use gt_list::NoMemory;
@@ -24,50 +24,50 @@ use std::alloc::Global;
 pub fn delete<D: Disk>(
     alloc: Global,
     limits: &Limits,
-    book: &mut Book,
+    state: &mut PartitionState,
     disk: &mut D,
     path: &RepoPath,
 ) -> Reply
-    ensures step { Step limits.now (state_of book.old) (Event.Delete path.now) result.answer (state_of book.new) }
-    ensures kept { IsKeptOf (state_of book.old) (Event.Delete path.now) result }
-    ensures pins { book.new.live ≡ book.old.live }
+    ensures step { Step limits.now (state_of state.old) (Event.Delete path.now) result.answer (state_of state.new) }
+    ensures kept { IsKeptOf (state_of state.old) (Event.Delete path.now) result }
+    ensures pins { state.new.live ≡ state.old.live }
     ensures cause { CallCause (D.fault_count disk.old) (D.fault_count disk.new) result.answer }
-    ensures counted { D.call_count disk.new ≤ D.call_count disk.old + settling_calls book.old.journal.doubt + 4 }
-    ensures moves { IsTrue D.tells → Moves limits.now (state_of book.old) (state_of book.new) (D.view disk.old) (D.view disk.new) }
+    ensures counted { D.call_count disk.new ≤ D.call_count disk.old + settling_calls state.old.journal.doubt + 4 }
+    ensures moves { IsTrue D.tells → Moves limits.now (state_of state.old) (state_of state.new) (D.view disk.old) (D.view disk.new) }
 {
-    if let Err(Failed) = book.journal.settle(disk) {
+    if let Err(Failed) = state.journal.settle(disk) {
         return Reply::of(Ended::DeviceFault);
     }
-    delete_settled(alloc, limits, book, disk, path)
+    delete_settled(alloc, limits, state, disk, path)
 }
 
 /// Deletes a repository, where nothing is in doubt.
 fn delete_settled<D: Disk>(
     alloc: Global,
     limits: &Limits,
-    book: &mut Book,
+    state: &mut PartitionState,
     disk: &mut D,
     path: &RepoPath,
 ) -> Reply
-    requires { book.old.journal.doubt ≡ None }
-    ensures lacks { has_repo (after_all nothing book.old.journal.log) path.now ≡ false → result.answer ≡ Err Why.NoRepository }
-    ensures acts { Acts limits.now (state_of book.old) (Event.Delete path.now) result.answer (state_of book.new) }
-    ensures kept { IsKeptOf (state_of book.old) (Event.Delete path.now) result }
-    ensures pins { book.new.live ≡ book.old.live }
+    requires { state.old.journal.doubt ≡ None }
+    ensures lacks { has_repo (after_all nothing state.old.journal.log) path.now ≡ false → result.answer ≡ Err Why.NoRepository }
+    ensures acts { Acts limits.now (state_of state.old) (Event.Delete path.now) result.answer (state_of state.new) }
+    ensures kept { IsKeptOf (state_of state.old) (Event.Delete path.now) result }
+    ensures pins { state.new.live ≡ state.old.live }
     ensures cause { CallCause (D.fault_count disk.old) (D.fault_count disk.new) result.answer }
     ensures counted { D.call_count disk.new ≤ D.call_count disk.old + 4 }
-    ensures moves { IsTrue D.tells → Moves limits.now (state_of book.old) (state_of book.new) (D.view disk.old) (D.view disk.new) }
+    ensures moves { IsTrue D.tells → Moves limits.now (state_of state.old) (state_of state.new) (D.view disk.old) (D.view disk.new) }
 {
-    if !book.journal.table().has_repo(path) {
+    if !state.journal.table().has_repo(path) {
         return Reply::of(Ended::NoRepository);
     }
-    if let Some(member) = book.journal.table().least_member(path) {
+    if let Some(member) = state.journal.table().least_member(path) {
         return match in_use(member) {
             Ok(reply) => reply,
             Err(NoMemory) => Reply::of(Ended::Memory),
         };
     }
-    Reply::of(delete_unused(alloc, limits, book, disk, path))
+    Reply::of(delete_unused(alloc, limits, state, disk, path))
 }
 
 /// A pool is in use by a member.
@@ -91,22 +91,22 @@ fn in_use(member: &RepoPath) -> Result<Reply, NoMemory>
 fn delete_unused<D: Disk>(
     alloc: Global,
     limits: &Limits,
-    book: &mut Book,
+    state: &mut PartitionState,
     disk: &mut D,
     path: &RepoPath,
 ) -> Ended
-    requires settled { book.old.journal.doubt ≡ None }
-    requires there { has_repo (after_all nothing book.old.journal.log) path.now ≡ true }
-    requires unused { least_member (after_all nothing book.old.journal.log) path.now ≡ None }
-    ensures full { limits.now.positions ≤ length book.old.journal.log → result ≡ End.LogFull }
-    ensures acts { Acts limits.now (state_of book.old) (Event.Delete path.now) (answer_of result) (state_of book.new) }
-    ensures kept { kept (state_of book.old) (Event.Delete path.now) (answer_of result) ≡ answer_of result }
-    ensures pins { book.new.live ≡ book.old.live }
+    requires settled { state.old.journal.doubt ≡ None }
+    requires there { has_repo (after_all nothing state.old.journal.log) path.now ≡ true }
+    requires unused { least_member (after_all nothing state.old.journal.log) path.now ≡ None }
+    ensures full { limits.now.positions ≤ length state.old.journal.log → result ≡ End.LogFull }
+    ensures acts { Acts limits.now (state_of state.old) (Event.Delete path.now) (answer_of result) (state_of state.new) }
+    ensures kept { kept (state_of state.old) (Event.Delete path.now) (answer_of result) ≡ answer_of result }
+    ensures pins { state.new.live ≡ state.old.live }
     ensures cause { CallCause (D.fault_count disk.old) (D.fault_count disk.new) (answer_of result) }
     ensures counted { D.call_count disk.new ≤ D.call_count disk.old + 4 }
-    ensures moves { IsTrue D.tells → Moves limits.now (state_of book.old) (state_of book.new) (D.view disk.old) (D.view disk.new) }
+    ensures moves { IsTrue D.tells → Moves limits.now (state_of state.old) (state_of state.new) (D.view disk.old) (D.view disk.new) }
 {
-    let front = book.journal.table().front();
+    let front = state.journal.table().front();
     if limits.positions <= front {
         return Ended::LogFull;
     }
@@ -119,7 +119,7 @@ fn delete_unused<D: Disk>(
         path,
         change: Change::Delete,
     };
-    match book.journal.add(alloc, limits, disk, entry) {
+    match state.journal.add(alloc, limits, disk, entry) {
         Ok(()) => Ended::Deleted { position },
         Err(LogError::Untouched) => Ended::DeviceFault,
         Err(LogError::Unsure) => Ended::Unsure { position },

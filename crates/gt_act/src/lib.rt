@@ -4,22 +4,22 @@
 
 mod aborting;
 mod beginning;
-mod book;
 mod committing;
 mod creating;
 mod deleting;
 mod ended;
 mod objects;
+mod partition_state;
 mod reading;
 mod reply;
 
 pub use aborting::abort;
 pub use beginning::begin;
-pub use book::Book;
 pub use committing::commit;
 pub use creating::create;
 pub use deleting::delete;
 pub use ended::Ended;
 pub use objects::cat;
+pub use partition_state::PartitionState;
 pub use reading::{get_ref, list_refs};
 pub use reply::Reply;

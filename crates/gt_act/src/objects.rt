@@ -4,13 +4,13 @@ ghost use Rattle.gt_model.specs.declared.event.Event.{Event};
 ghost use Rattle.gt_model.specs.declared.refusal.Refusal.{Refusal as Why};
 ghost use Rattle.gt_model.specs.Machine.{is_live, pin_of};
 ghost use Rattle.gt_table.specs.Table.{place_at};
-ghost use Rattle.gt_act.specs.Book.{state_of};
+ghost use Rattle.gt_act.specs.PartitionState.{state_of};
 ghost use Rattle.gt_act.specs.Cat.{CatHappens, CatGives, CatNamed};
 ghost use Rattle.gt_act.specs.Causes.{CallCause};
 ghost use Rattle.gt_act.specs.Ended.{IsKeptOf};
 
-use crate::book::Book;
 use crate::ended::Ended;
+use crate::partition_state::PartitionState;
 use crate::reply::Reply;
 use gt_disk::Disk;
 use gt_model::{Done, Limits};
@@ -23,24 +23,24 @@ use std::alloc::Global;
 pub fn cat<D: Disk>(
     alloc: Global,
     limits: &Limits,
-    book: &Book,
+    state: &PartitionState,
     disk: &mut D,
     pin: &Pin,
     name: &Name,
 ) -> Reply
-    requires { is_live book.now.live pin.now ≡ true }
-    ensures happens { CatHappens limits.now (state_of book.now) pin.now name.now result.answer }
-    ensures kept { IsKeptOf (state_of book.now) (Event.Cat pin.now name.now) result }
-    ensures gives { IsTrue D.tells → CatGives (state_of book.now) pin.now name.now (D.view disk.old).reads result.answer }
-    ensures hidden { place_at book.now.journal.log (pin_of (state_of book.now) pin.now).position (pin_of (state_of book.now) pin.now).path name.now ≡ None → result.answer ≡ Err (Why.Absent name.now) }
-    ensures memory { IsTrue D.tells → result.answer ≡ Err Why.Memory → (disk.new ≡ disk.old) ⊎ CatNamed (state_of book.now) pin.now name.now (D.view disk.old).reads }
+    requires { is_live state.now.live pin.now ≡ true }
+    ensures happens { CatHappens limits.now (state_of state.now) pin.now name.now result.answer }
+    ensures kept { IsKeptOf (state_of state.now) (Event.Cat pin.now name.now) result }
+    ensures gives { IsTrue D.tells → CatGives (state_of state.now) pin.now name.now (D.view disk.old).reads result.answer }
+    ensures hidden { place_at state.now.journal.log (pin_of (state_of state.now) pin.now).position (pin_of (state_of state.now) pin.now).path name.now ≡ None → result.answer ≡ Err (Why.Absent name.now) }
+    ensures memory { IsTrue D.tells → result.answer ≡ Err Why.Memory → (disk.new ≡ disk.old) ⊎ CatNamed (state_of state.now) pin.now name.now (D.view disk.old).reads }
     ensures cause { CallCause (D.fault_count disk.old) (D.fault_count disk.new) result.answer }
     ensures counted { D.call_count disk.new ≤ D.call_count disk.old + 1 }
     ensures later { (D.view disk.old).clock ≤ (D.view disk.new).clock }
     ensures quiet { IsTrue D.tells → Quiet (D.view disk.old) (D.view disk.new) }
 {
-    let live = book.live.get(pin);
-    let Some(place) = book
+    let live = state.live.get(pin);
+    let Some(place) = state
         .journal
         .table()
         .place_at(live.position, &live.path, name)

@@ -3,8 +3,8 @@
 
 mod list;
 mod memory;
-mod roomy;
+mod reserved_vec;
 
 pub use list::ListOf;
 pub use memory::NoMemory;
-pub use roomy::Roomy;
+pub use reserved_vec::ReservedVec;

@@ -12,7 +12,7 @@ use Rattle.gt_manifest.specs.declared.manifest.RepoFiles.{RepoFiles}
 use Rattle.gt_manifest.specs.declared.manifest.Manifest.{Manifest}
 use Rattle.gt_manifest.specs.declared.version.Version.{Version}
 use Rattle.gt_manifest.specs.declared.version.Version.TheVariants.{First, Second}
-use Rattle.gt_manifest.specs.declared.whole.Gone.{Gone}
+use Rattle.gt_manifest.specs.declared.whole.Cursor.{Cursor}
 use Rattle.gt_manifest.specs.Spelling.{manifest, FitsFields}
 use Rattle.gt_manifest.specs.Reading.{fields_of}
 
@@ -89,10 +89,10 @@ pub record IsSpelledBy (bytes : List ℕ) (m : Manifest) : Type 0 where
 
 -- ---- the code's answers
 
-abbrev pub seen : Gone → State
+abbrev pub seen : Cursor → State
 seen g = (g.numbers.keys, g.at)
 
 -- What was answered is what is read, or memory ran out.
-abbrev pub Goes : Result Gone FieldError → Result State ℕ → Type 0
+abbrev pub Goes : Result Cursor FieldError → Result State ℕ → Type 0
 Goes (Ok g) read = read ≡ Ok (seen g)
 Goes (Err e) read = fields.Fails e read

@@ -12,17 +12,17 @@ use std::collections::BTreeSet;
 
 /// How far the fields have been gone through: the file numbers so far, and the place of the next field.
 #[derive(Drop)]
-pub(crate) struct Gone {
+pub(crate) struct Cursor {
     numbers: BTreeSet<u64>,
     at: usize,
 }
 
 /// Passes over bytes. They stand in memory, so no place is past the greatest number; if one were, memory couldn't have it.
-fn past(gone: Gone, size: usize) -> Result<Gone, FieldError>
+fn past(gone: Cursor, size: usize) -> Result<Cursor, FieldError>
     ensures { Goes result (Ok (past (seen gone) size)) }
 {
     match gone.at.checked_add(size) {
-        Some(at) => Ok(Gone {
+        Some(at) => Ok(Cursor {
             numbers: gone.numbers,
             at,
         }),
@@ -31,11 +31,11 @@ fn past(gone: Gone, size: usize) -> Result<Gone, FieldError>
 }
 
 /// A file number, which must be from 1 to `next - 1` and new.
-fn number(next: u64, gone: Gone, number: u64) -> Result<Gone, FieldError>
+fn number(next: u64, gone: Cursor, number: u64) -> Result<Cursor, FieldError>
     ensures goes { Goes result (number_here next (seen gone) number) }
     ensures memory { MemoryAfter result (number_here next (seen gone) number) }
 {
-    let Gone { mut numbers, at } = gone;
+    let Cursor { mut numbers, at } = gone;
     if number < 1 {
         return Err(FieldError::BadField { at });
     }
@@ -47,12 +47,12 @@ fn number(next: u64, gone: Gone, number: u64) -> Result<Gone, FieldError>
     }
     match numbers.insert(number) {
         Err(_) => Err(FieldError::Memory),
-        Ok(_) => past(Gone { numbers, at }, 8),
+        Ok(_) => past(Cursor { numbers, at }, 8),
     }
 }
 
 /// The packed file, if there is one.
-fn packed(next: u64, gone: Gone, file: u64) -> Result<Gone, FieldError>
+fn packed(next: u64, gone: Cursor, file: u64) -> Result<Cursor, FieldError>
     ensures goes { Goes result (packed_here next (seen gone) file) }
     ensures memory { MemoryAfter result (packed_here next (seen gone) file) }
 {
@@ -63,7 +63,7 @@ fn packed(next: u64, gone: Gone, file: u64) -> Result<Gone, FieldError>
     }
 }
 
-fn packs(next: u64, gone: Gone, packs: &[u64]) -> Result<Gone, FieldError>
+fn packs(next: u64, gone: Cursor, packs: &[u64]) -> Result<Cursor, FieldError>
     ensures { Goes result (walk (number_here next) (seen gone) packs.now) }
 {
     let mut gone = gone;
@@ -74,7 +74,7 @@ fn packs(next: u64, gone: Gone, packs: &[u64]) -> Result<Gone, FieldError>
 }
 
 /// The file of a reference, behind its name.
-fn loose_file(next: u64, gone: Gone, loose: &Loose) -> Result<Gone, FieldError>
+fn loose_file(next: u64, gone: Cursor, loose: &Loose) -> Result<Cursor, FieldError>
     ensures { Goes result (loose_here next (seen gone) loose.now) }
 {
     let gone = past(gone, 2 + loose.name.bytes().len())?;
@@ -82,7 +82,7 @@ fn loose_file(next: u64, gone: Gone, loose: &Loose) -> Result<Gone, FieldError>
     Ok(gone)
 }
 
-fn loose_files(next: u64, gone: Gone, files: &[Loose]) -> Result<Gone, FieldError>
+fn loose_files(next: u64, gone: Cursor, files: &[Loose]) -> Result<Cursor, FieldError>
     ensures { Goes result (walk (loose_here next) (seen gone) files.now) }
 {
     let mut gone = gone;
@@ -100,7 +100,7 @@ fn is_pool(all: &[RepoFiles], path: &RepoPath) -> bool
 }
 
 /// The pool, if there is one.
-fn pool(all: &[RepoFiles], gone: Gone, repo: &RepoFiles) -> Result<Gone, FieldError>
+fn pool(all: &[RepoFiles], gone: Cursor, repo: &RepoFiles) -> Result<Cursor, FieldError>
     ensures goes { Goes result (pool_here all.now (seen gone) repo.now) }
     ensures memory { MemoryAfter result (pool_here all.now (seen gone) repo.now) }
 {
@@ -132,9 +132,9 @@ fn repo_files(
     all: &[RepoFiles],
     version: Version,
     next: u64,
-    gone: Gone,
+    gone: Cursor,
     repo: &RepoFiles,
-) -> Result<Gone, FieldError>
+) -> Result<Cursor, FieldError>
     ensures { Goes result (repo_here all.now version next (seen gone) repo.now) }
 {
     let gone = past(gone, 3 + repo.path.bytes().len())?;
@@ -153,12 +153,12 @@ pub(crate) fn whole(
     alloc: Global,
     version: Version,
     manifest: &Manifest,
-) -> Result<Gone, FieldError>
+) -> Result<Cursor, FieldError>
     ensures goes { Goes result (whole version manifest.now) }
     ensures some { OnErr result (1 ≤ length manifest.now.repos) }
 {
     let all = manifest.repos.as_slice();
-    let mut gone = Gone {
+    let mut gone = Cursor {
         numbers: BTreeSet::new(alloc),
         at: 32,
     };

@@ -1,11 +1,11 @@
 use crate::{RefsAt, Turn};
-use gt_list::Roomy;
+use gt_list::ReservedVec;
 
 /// What happened in one opening of a partition.
 #[derive(Drop)]
 pub struct Trail {
     /// Its events, in order.
-    pub turns: Roomy<Turn>,
+    pub turns: ReservedVec<Turn>,
     /// The references at the opening.
     pub opening: RefsAt,
 }

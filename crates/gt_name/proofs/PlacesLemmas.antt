@@ -5,7 +5,7 @@ use Rattle.std.proofs.lemmas.List.{drop_more}
 use Rattle.std.specs.List.{prefix_len, starts_with}
 use Rattle.std.specs.Prelude.{nat_eq}
 use Rattle.std.specs.Option.{option_map}
-use Rattle.gt_name.specs.declared.component.Fault.{Fault}
+use Rattle.gt_name.specs.declared.component.ComponentFault.{ComponentFault}
 use Rattle.gt_name.specs.Broken.{or_else}
 use Rattle.gt_name.specs.Components.{component, is_slash, has_fault, faulty_from}
 use Rattle.gt_name.specs.References.{first_text}
@@ -57,7 +57,7 @@ module _ (text : List ℕ) (at : ℕ) (within : at < length text) (whole found m
       rw (here, rest_at-drop at text, next) (noted whole found _ (starts_with nat_eq (get_or text at 0 ∷ drop (at + 1) text) part) at (rw next at left))
 
   -- a component is looked at, if one begins here
-  pub component_noted : (fault : Fault) (begins : Bool) → whole ≡ or_else found (moved at (faulty_from fault begins (drop at text)))
+  pub component_noted : (fault : ComponentFault) (begins : Bool) → whole ≡ or_else found (moved at (faulty_from fault begins (drop at text)))
       → more ≡ or_else found (cond (begins && has_fault fault (component (rest_at at text))) (Some at) None)
       → whole ≡ or_else more (moved (at + 1) (faulty_from fault (is_slash (get_or text at 0)) (drop (at + 1) text)))
   component_noted fault begins left here =

@@ -1,7 +1,7 @@
 -- The rules of a repository's path. Each is a sentence over the whole text: where it is broken, or none.
 use Rattle.std.specs.Prelude.{◌≡◌, ℕ, Bool, List, length, not, nat_le, nat_lt, ◌&&◌, ◌||◌, ◌==◌, if◌then◌else◌, Option, Some, None, position, codes, nat_eq}
 use Rattle.std.specs.List.{ends_with}
-use Rattle.gt_name.specs.declared.component.Fault.TheVariants.{Improper}
+use Rattle.gt_name.specs.declared.component.ComponentFault.TheVariants.{Improper}
 use Rattle.gt_name.specs.Broken.{or_else}
 use Rattle.gt_name.specs.Components.{faulty_component}
 

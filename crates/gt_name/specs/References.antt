@@ -2,7 +2,7 @@
 use Rattle.std.specs.Prelude.{◌≡◌, ℕ, suc, Bool, List, [], ◌∷◌, length, ◌-◌, nat_lt, ◌||◌, ◌==◌, if◌then◌else◌, Option, Some, None, position, codes, nat_eq}
 use Rattle.std.specs.List.{starts_with, ends_with, list_any}
 use Rattle.std.specs.Option.{option_map}
-use Rattle.gt_name.specs.declared.component.Fault.TheVariants.{Empty, BeginsWithDot, EndsWithLock}
+use Rattle.gt_name.specs.declared.component.ComponentFault.TheVariants.{Empty, BeginsWithDot, EndsWithLock}
 use Rattle.gt_name.specs.Broken.{first_of}
 use Rattle.gt_name.specs.Components.{faulty_component}
 

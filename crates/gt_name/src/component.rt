@@ -3,7 +3,7 @@ ghost use Rattle.gt_name.specs.Components.{component, is_slash, has_fault, fault
 
 /// What may be wrong with a component of a path or of a reference's name.
 #[derive(Clone, Copy, Debug, PartialEq, Eq)]
-pub enum Fault {
+pub enum ComponentFault {
     /// It is empty, `.` or `..`.
     Improper,
     /// It is empty.
@@ -28,21 +28,21 @@ pub(crate) fn component(rest: &[u8]) -> &[u8]
     &rest[..end]
 }
 
-pub(crate) fn has_fault(fault: Fault, component: &[u8]) -> bool
+pub(crate) fn has_fault(fault: ComponentFault, component: &[u8]) -> bool
     ensures { result ≡ has_fault fault component.now }
 {
     match fault {
-        Fault::Improper => component.is_empty()
+        ComponentFault::Improper => component.is_empty()
             || component == b".".as_slice()
             || component == b"..".as_slice(),
-        Fault::Empty => component.is_empty(),
-        Fault::BeginsWithDot => component.starts_with(b"."),
-        Fault::EndsWithLock => component.ends_with(b".lock"),
+        ComponentFault::Empty => component.is_empty(),
+        ComponentFault::BeginsWithDot => component.starts_with(b"."),
+        ComponentFault::EndsWithLock => component.ends_with(b".lock"),
     }
 }
 
 /// The place where the first component with this fault begins.
-pub(crate) fn faulty_component(fault: Fault, text: &[u8]) -> Option<usize>
+pub(crate) fn faulty_component(fault: ComponentFault, text: &[u8]) -> Option<usize>
     ensures { result ≡ faulty_component fault text.now }
 {
     let mut begins = true;

@@ -8,7 +8,7 @@ ghost use Rattle.std.proofs.Common.{rules};
 ghost use Rattle.gt_name.specs.Paths.{bad_path, path_length, path_byte, path_component, path_end};
 
 use crate::NameError;
-use crate::component::{Fault, faulty_component};
+use crate::component::{ComponentFault, faulty_component};
 use std::alloc::{AllocError, Global};
 use std::cmp::Ordering;
 use std::hash::{Hash, Hasher};
@@ -158,7 +158,7 @@ fn broken_rule(text: &[u8]) -> Option<usize>
     if let Some(at) = bad_byte(text) {
         return Some(at);
     }
-    if let Some(at) = faulty_component(Fault::Improper, text) {
+    if let Some(at) = faulty_component(ComponentFault::Improper, text) {
         return Some(at);
     }
     bad_end(text)

@@ -1,11 +1,11 @@
 ghost use Rattle.std.specs.Prelude.{◌≡◌, ◌&&◌, ◌∷◌, Some, None, if◌then◌else◌, codes, nat_eq};
 ghost use Rattle.std.specs.List.{starts_with};
-ghost use Rattle.gt_name.specs.declared.component.Fault.TheVariants.{Empty, BeginsWithDot, EndsWithLock};
+ghost use Rattle.gt_name.specs.declared.component.ComponentFault.TheVariants.{Empty, BeginsWithDot, EndsWithLock};
 ghost use Rattle.gt_name.specs.Broken.{or_else};
 ghost use Rattle.gt_name.specs.Components.{component, has_fault};
 ghost use Rattle.gt_name.specs.References.{is_forbidden, ref_byte, ref_empty, ref_dot, ref_dots, ref_brace, ref_lock};
 
-use crate::component::{Fault, component, has_fault};
+use crate::component::{ComponentFault, component, has_fault};
 
 /// The first place where a text breaks each rule of a reference's name that a scan finds out.
 #[derive(Clone, Copy, Debug)]
@@ -71,9 +71,17 @@ impl FirstPlaces {
         }
         let component = component(rest);
         FirstPlaces {
-            empty: noted(self.empty, has_fault(Fault::Empty, component), at),
-            dot: noted(self.dot, has_fault(Fault::BeginsWithDot, component), at),
-            lock: noted(self.lock, has_fault(Fault::EndsWithLock, component), at),
+            empty: noted(self.empty, has_fault(ComponentFault::Empty, component), at),
+            dot: noted(
+                self.dot,
+                has_fault(ComponentFault::BeginsWithDot, component),
+                at,
+            ),
+            lock: noted(
+                self.lock,
+                has_fault(ComponentFault::EndsWithLock, component),
+                at,
+            ),
             ..self
         }
     }

@@ -11,7 +11,7 @@ ghost use Rattle.gt_objset.specs.Track.{Track, life_at, is_pool_at, head_in_trac
 use crate::Place;
 use crate::head::HeadChange;
 use crate::plan::Puts;
-use crate::slots::{Slots, put_slots, reserve_slots};
+use crate::slots::{PlaceVersions, put_slots, reserve_slots};
 use gt_list::{ListOf, NoMemory};
 use gt_name::{Name, Names, RepoPath};
 use gt_versions::Versions;
@@ -22,14 +22,14 @@ use std::marker::Model;
 /// One repository at each position: since when it is there, whether it is a pool, the path of its pool, and the places of
 /// its own objects. What was given before it began anew doesn't count any more.
 #[derive(Drop)]
-pub struct Repo {
+pub struct RepoObjects {
     lives: Versions<bool>,
     kinds: Versions<Option<bool>>,
     pools: Versions<Option<RepoPath>>,
-    objects: Slots,
+    objects: PlaceVersions,
 }
 
-impl Model for Repo {
+impl Model for RepoObjects {
     ghost use Rattle.std.specs.FinMap as map;
     ghost use Rattle.gt_objset.specs.Track.{Track, track_code};
 
@@ -40,15 +40,15 @@ impl Model for Repo {
     ghost view = { λ r. record { lives = r.lives; kinds = r.kinds; pools = r.pools; objects = map.from_entries r.objects.entries } };
 }
 
-impl Repo {
+impl RepoObjects {
     /// A repository that was never there. It takes no memory.
-    pub fn new(alloc: Global) -> Repo
+    pub fn new(alloc: Global) -> RepoObjects
         ensures lives { result.lives.0 ≡ [] }
         ensures kinds { result.kinds.0 ≡ [] }
         ensures pools { result.pools.0 ≡ [] }
         ensures objects { result.objects ≡ map.empty }
     {
-        Repo {
+        RepoObjects {
             lives: Versions::new(alloc),
             kinds: Versions::new(alloc),
             pools: Versions::new(alloc),
@@ -119,7 +119,7 @@ impl Repo {
     }
 
     /// What it sees of its pool and doesn't own, at a position.
-    pub fn taken(&self, alloc: Global, at: u64, pool: &Repo) -> Result<Puts, NoMemory>
+    pub fn taken(&self, alloc: Global, at: u64, pool: &RepoObjects) -> Result<Puts, NoMemory>
         ensures { IfOk result (λ puts. (x : List ℕ) → unwrap_or (last_put puts x None) (own_in_track self.now at x) ≡ option_or (own_in_track self.now at x) (own_in_track pool.now at x)) }
     {
         let mut puts = ListOf::new(alloc);
@@ -133,7 +133,7 @@ impl Repo {
         Ok(puts)
     }
 
-    fn taken_place(&self, at: u64, pool: &Repo, name: &Name) -> Option<Place>
+    fn taken_place(&self, at: u64, pool: &RepoObjects, name: &Name) -> Option<Place>
         ensures { result ≡ taken (own_in_track self.now at name.now) (own_in_track pool.now at name.now) }
     {
         match self.own(at, name) {
@@ -183,7 +183,7 @@ fn put_if<V: Drop>(versions: &mut Versions<V>, position: u64, value: Option<V>)
     }
 }
 
-fn version_at(objects: &Slots, start: u64, at: u64, name: &Name) -> Option<Place>
+fn version_at(objects: &PlaceVersions, start: u64, at: u64, name: &Name) -> Option<Place>
     ensures { result ≡ value_since start (last_at (items_of (tree.get key_cmp objects.now name.now)) at None) }
 {
     match objects.get(name) {

@@ -9,13 +9,13 @@ ghost use Rattle.gt_objset.specs.Table.{Changed, SameSlot, RoomHere};
 
 use crate::Place;
 use crate::head::HeadChange;
-use crate::repo::Repo;
+use crate::repo::RepoObjects;
 use gt_list::NoMemory;
 use gt_name::{Name, RepoPath};
 use std::alloc::Global;
 use std::collections::BTreeMap;
 
-pub type Repos = BTreeMap<RepoPath, Repo>;
+pub type Repos = BTreeMap<RepoPath, RepoObjects>;
 
 /// Changes a repository from a position on, in room that was taken before.
 pub fn put_repo(
@@ -72,7 +72,7 @@ fn add_repo(repos: &mut Repos, alloc: Global, path: &RepoPath) -> Result<(), NoM
     let Ok(key) = path.clone() else {
         return Err(NoMemory);
     };
-    match repos.insert(key, Repo::new(alloc)) {
+    match repos.insert(key, RepoObjects::new(alloc)) {
         Ok(_) => Ok(()),
         Err(_) => Err(NoMemory),
     }

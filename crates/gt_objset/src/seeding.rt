@@ -9,7 +9,7 @@ ghost use Rattle.gt_objset.specs.Seeds.{IsSeeded, SeedsPuts};
 
 use crate::Place;
 use crate::head::HeadChange;
-use crate::repo::Repo;
+use crate::repo::RepoObjects;
 use crate::repos::{Repos, put_repo, reserve_repo};
 use gt_list::NoMemory;
 use gt_name::{Name, RepoPath};
@@ -46,7 +46,7 @@ fn seeded(
     floor: u64,
     is_pool: bool,
     pool: Option<&RepoPath>,
-) -> Result<Repo, NoMemory>
+) -> Result<RepoObjects, NoMemory>
     ensures { IfOk result (IsSeeded floor (record { is_pool = is_pool; pool = option_copied pool.entry })) }
 {
     let head = match HeadChange::seeds(is_pool, pool) {
@@ -54,7 +54,7 @@ fn seeded(
         Err(error) => return Err(error),
     };
     let nothing: [(Name, Option<Place>); 0] = [];
-    let mut repo = Repo::new(alloc);
+    let mut repo = RepoObjects::new(alloc);
     if let Err(error) = repo.reserve(alloc, &nothing) {
         return Err(error);
     }

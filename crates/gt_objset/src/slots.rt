@@ -14,10 +14,10 @@ use std::alloc::Global;
 use std::collections::BTreeMap;
 
 /// The versions of each object's place.
-pub type Slots = BTreeMap<Name, Versions<Option<Place>>>;
+pub type PlaceVersions = BTreeMap<Name, Versions<Option<Place>>>;
 
 /// Puts places from a position on, in room that was taken before.
-pub fn put_slots(slots: &mut Slots, position: u64, puts: &[(Name, Option<Place>)])
+pub fn put_slots(slots: &mut PlaceVersions, position: u64, puts: &[(Name, Option<Place>)])
     requires after { (x : List ℕ) → IsUpTo position (items_of (tree.get key_cmp slots.old x)) }
     requires room { HasSlots position (λ x. tree.get key_cmp slots.old x) puts.now }
     ensures { PutsSlots position puts.now (λ x. tree.get key_cmp slots.old x) (λ x. tree.get key_cmp slots.new x) }
@@ -29,7 +29,7 @@ pub fn put_slots(slots: &mut Slots, position: u64, puts: &[(Name, Option<Place>)
 
 /// Takes room for a further version of each name.
 pub fn reserve_slots(
-    slots: &mut Slots,
+    slots: &mut PlaceVersions,
     alloc: Global,
     puts: &[(Name, Option<Place>)],
 ) -> Result<(), NoMemory>
@@ -44,7 +44,7 @@ pub fn reserve_slots(
     Ok(())
 }
 
-fn put_slot(slots: &mut Slots, position: u64, name: &Name, place: Option<Place>)
+fn put_slot(slots: &mut PlaceVersions, position: u64, name: &Name, place: Option<Place>)
     requires after { IsUpTo position (items_of (tree.get key_cmp slots.old name.now)) }
     requires room { IsTrue (slot_ready position (tree.get key_cmp slots.old name.now)) }
     ensures here { items_of (tree.get key_cmp slots.new name.now) ≡ put_at position place (items_of (tree.get key_cmp slots.old name.now)) }
@@ -57,7 +57,7 @@ fn put_slot(slots: &mut Slots, position: u64, name: &Name, place: Option<Place>)
     versions.put(position, place);
 }
 
-fn reserve_slot(slots: &mut Slots, alloc: Global, name: &Name) -> Result<(), NoMemory>
+fn reserve_slot(slots: &mut PlaceVersions, alloc: Global, name: &Name) -> Result<(), NoMemory>
     ensures same { AreRoomier (λ x. tree.get key_cmp slots.old x) (λ x. tree.get key_cmp slots.new x) }
     ensures ok { OnOk result ((q : ℕ) → IsTrue (slot_ready q (tree.get key_cmp slots.new name.now))) }
 {
@@ -68,7 +68,7 @@ fn reserve_slot(slots: &mut Slots, alloc: Global, name: &Name) -> Result<(), NoM
     }
 }
 
-fn grow_slot(slots: &mut Slots, name: &Name) -> Result<(), NoMemory>
+fn grow_slot(slots: &mut PlaceVersions, name: &Name) -> Result<(), NoMemory>
     requires { IsSome (tree.get key_cmp slots.old name.now) }
     ensures here { items_of (tree.get key_cmp slots.new name.now) ≡ items_of (tree.get key_cmp slots.old name.now) }
     ensures kept { (q : ℕ) → IsTrue (slot_ready q (tree.get key_cmp slots.old name.now)) → IsTrue (slot_ready q (tree.get key_cmp slots.new name.now)) }
@@ -81,7 +81,7 @@ fn grow_slot(slots: &mut Slots, name: &Name) -> Result<(), NoMemory>
     versions.reserve()
 }
 
-fn add_slot(slots: &mut Slots, alloc: Global, name: &Name) -> Result<(), NoMemory>
+fn add_slot(slots: &mut PlaceVersions, alloc: Global, name: &Name) -> Result<(), NoMemory>
     requires { tree.get key_cmp slots.old name.now ≡ None }
     ensures here { items_of (tree.get key_cmp slots.new name.now) ≡ [] }
     ensures ok { OnOk result ((q : ℕ) → IsTrue (slot_ready q (tree.get key_cmp slots.new name.now))) }

@@ -8,19 +8,19 @@ use Rattle.std.specs.Option.{unwrap_or, option_map, option_map_or}
 use Rattle.std.proofs.lemmas.Bool.{false≢true}
 use Rattle.std.proofs.lemmas.Option.{slice_get-map, slice_get_read}
 use Rattle.gt_disk.specs.declared.mem.MemDisk.{MemDisk}
-use Rattle.gt_outside.specs.declared.place.Place.{Place}
+use Rattle.gt_outside.specs.declared.disk_slot.DiskSlot.{DiskSlot}
 use Rattle.gt_outside.specs.Places.{IsAllHere, Takes, Gives, known, disk_at, is_out_at}
 
-pub one_more_here : (disks : List MemDisk) (places : List Place) (disk : MemDisk) (place : Place) → IsAllHere disks places → place.disk ≡ Some disk → IsAllHere (disks ++ disk ∷ []) (places ++ place ∷ [])
+pub one_more_here : (disks : List MemDisk) (places : List DiskSlot) (disk : MemDisk) (place : DiskSlot) → IsAllHere disks places → place.disk ≡ Some disk → IsAllHere (disks ++ disk ∷ []) (places ++ place ∷ [])
 one_more_here disks places disk place all is = record {
   each = map-append known places (place ∷ []) ∙ ap₂ (λ (ds : List MemDisk) (d : MemDisk). ds ++ d ∷ []) all.each (ap (λ (o : Option MemDisk). unwrap_or o place.last.value) is);
-  here = All-append (λ (p : Place). is_none p.disk ≡ false) places (place ∷ []) all.here (search (rules, is));
+  here = All-append (λ (p : DiskSlot). is_none p.disk ≡ false) places (place ∷ []) all.here (search (rules, is));
 }
 
-pub all_here_disks : (disks : List MemDisk) (places : List Place) (n : ℕ) → IsAllHere disks places → disk_at places n ≡ slice_get disks n
+pub all_here_disks : (disks : List MemDisk) (places : List DiskSlot) (n : ℕ) → IsAllHere disks places → disk_at places n ≡ slice_get disks n
 all_here_disks disks places n all = sym (slice_get-map known places n) ∙ ap (λ (ds : List MemDisk). slice_get ds n) all.each
 
-pub none_out : (places : List Place) (n : ℕ) → All (λ (place : Place). is_none place.disk ≡ false) places → is_out_at places n ≡ false
+pub none_out : (places : List DiskSlot) (n : ℕ) → All (λ (place : DiskSlot). is_none place.disk ≡ false) places → is_out_at places n ≡ false
 none_out [] n all = refl
 none_out (place ∷ places) zero all = all 0 place (omega arith)
 none_out (place ∷ places) (suc n) all = none_out places n (λ k d within. all (suc k) d (omega (arith, within)))
@@ -38,16 +38,16 @@ slice_get-set_other (y ∷ xs) (suc n) zero x other = refl
 slice_get-set_other (y ∷ xs) (suc n) (suc k) x other = slice_get-set_other xs n k x (λ same. other (ap suc same))
 
 -- whether the disk of a place is out
-abbrev out_of : Option Place → Bool
-out_of o = option_map_or (λ (p : Place). is_none p.disk) o false
+abbrev out_of : Option DiskSlot → Bool
+out_of o = option_map_or (λ (p : DiskSlot). is_none p.disk) o false
 
-pub out_within : (places : List Place) (n : ℕ) → is_out_at places n ≡ true → n < length places
+pub out_within : (places : List DiskSlot) (n : ℕ) → is_out_at places n ≡ true → n < length places
 out_within [] n out = absurd (false≢true out)
 out_within (place ∷ places) zero out = omega arith
 out_within (place ∷ places) (suc n) out = omega (arith, out_within places n out)
 
 -- a place with a disk
-pub gives-set : (places : List Place) (i n : ℕ) (place : Place) (disk : MemDisk) → i ≡ n → n < length places → place.disk ≡ Some disk → Gives n disk places (set places i place)
+pub gives-set : (places : List DiskSlot) (i n : ℕ) (place : DiskSlot) (disk : MemDisk) → i ≡ n → n < length places → place.disk ≡ Some disk → Gives n disk places (set places i place)
 gives-set places i n place disk at within here =
     let put : slice_get (set places n place) n ≡ Some place = slice_get-set_same places n place within in
     subst (λ (j : ℕ). Gives n disk places (set places j place)) (sym at) (record {
@@ -58,7 +58,7 @@ gives-set places i n place disk at within here =
     })
 
 -- a place without its disk, which it still knows
-pub takes-set : (places : List Place) (i n : ℕ) (before after : Place) (disk : MemDisk) → i ≡ n → n < length places → before ≡ get_or places n before → before.disk ≡ Some disk → after.disk ≡ None → after.last.value ≡ disk → Takes n disk places (set places i after)
+pub takes-set : (places : List DiskSlot) (i n : ℕ) (before after : DiskSlot) (disk : MemDisk) → i ≡ n → n < length places → before ≡ get_or places n before → before.disk ≡ Some disk → after.disk ≡ None → after.last.value ≡ disk → Takes n disk places (set places i after)
 takes-set places i n before after disk at within stood here out last =
     let got : slice_get places n ≡ Some before = slice_get_read places (length places) n before refl within stood in
     let put : slice_get (set places n after) n ≡ Some after = slice_get-set_same places n after within in

@@ -2,6 +2,7 @@
 //! memory for each.
 #![tactic(auto)]
 
+mod disk_slot;
 mod failing;
 mod gate;
 mod host;
@@ -9,7 +10,6 @@ mod mem_host;
 mod mem_sink;
 mod mem_source;
 mod no_gate;
-mod place;
 mod reading;
 mod sink;
 mod source;

@@ -1,8 +1,8 @@
 ghost use Rattle.std.specs.Prelude.{◌≡◌, ◌<◌, ℕ, false, true, slice_get, IfOk, IfSome, IsSome, IsNone, vec_len};
 
 use crate::Host;
+use crate::disk_slot::{DiskSlot, places_of, put_back, take_from};
 use crate::failing::FailingCalls;
-use crate::place::{Place, places_of, put_back, take_from};
 use gt_disk::{Disk, Failed, MemDisk};
 use gt_list::NoMemory;
 use std::alloc::Global;
@@ -10,7 +10,7 @@ use std::alloc::Global;
 /// The disks 0 to 8 in memory. Calls of `take` fail by a list.
 #[derive(Drop)]
 pub struct MemHost {
-    places: Vec<Place>,
+    places: Vec<DiskSlot>,
     calls: FailingCalls,
     ghost nine: { vec_len places ≡ 9 },
 }

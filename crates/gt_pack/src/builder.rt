@@ -12,7 +12,7 @@ use crate::placed::find_in;
 use crate::reading::is_above;
 use crate::spelling::{spelled_head, spelled_item, spelled_tail};
 use gt_disk::{Disk, DiskError, FileId};
-use gt_list::Roomy;
+use gt_list::ReservedVec;
 use gt_name::Name;
 use std::alloc::Global;
 use std::marker::Model;
@@ -29,7 +29,7 @@ pub struct PackBuilder {
     file: u64,
     count: u32,
     next: u64,
-    items: Roomy<Placed>,
+    items: ReservedVec<Placed>,
 }
 
 impl Model for PackBuilder {
@@ -71,7 +71,7 @@ impl PackBuilder {
             file,
             count,
             next: 8,
-            items: Roomy::new(alloc),
+            items: ReservedVec::new(alloc),
         })
     }
 

@@ -28,13 +28,13 @@ impl<D: Disk + Drop> Partition<D> {
         ensures called { Called D.tells D.view D.fault_count D.call_count who (Asked.Create path pool) result self.old self.new }
         ensures pins { pins_of self.new ≡ pins_of self.old }
     {
-        if let Err(_) = take_room(&mut self.trail, self.book.live.len(), 1) {
+        if let Err(_) = take_room(&mut self.trail, self.state.live.len(), 1) {
             return Err(Refusal::Memory);
         }
         let ended = create(
             alloc,
             &self.limits,
-            &mut self.book,
+            &mut self.state,
             &mut self.disk,
             &path,
             pool,
@@ -66,10 +66,10 @@ impl<D: Disk + Drop> Partition<D> {
         ensures called { Called D.tells D.view D.fault_count D.call_count who (Asked.Delete path) result self.old self.new }
         ensures pins { pins_of self.new ≡ pins_of self.old }
     {
-        if let Err(_) = take_room(&mut self.trail, self.book.live.len(), 1) {
+        if let Err(_) = take_room(&mut self.trail, self.state.live.len(), 1) {
             return Err(Refusal::Memory);
         }
-        let reply = delete(alloc, &self.limits, &mut self.book, &mut self.disk, &path);
+        let reply = delete(alloc, &self.limits, &mut self.state, &mut self.disk, &path);
         let tick = self.disk.tick();
         note(&mut self.trail, tick, who, Event::Delete { path }, reply)
     }

@@ -8,10 +8,10 @@ ghost use Rattle.gt_base.specs.Histories.{IsGood, Holds};
 ghost use Rattle.gt_part.specs.Mounts.{Mounts, HasMountCause};
 ghost use Rattle.gt_part.specs.Shown.{memory, Counts, HasRun, Continues, OneOpening, pins_of, front_of};
 
-use gt_act::Book;
+use gt_act::PartitionState;
 use gt_base::Journal;
 use gt_disk::Disk;
-use gt_list::Roomy;
+use gt_list::ReservedVec;
 use gt_log::{MountCause, MountError};
 use gt_model::{Limits, Trail};
 use gt_pins::{Live, Pin};
@@ -25,7 +25,7 @@ pub struct Partition<D: Disk + Drop> {
     pub(crate) number: u8,
     pub(crate) disk: D,
     pub(crate) limits: Limits,
-    pub(crate) book: Book,
+    pub(crate) state: PartitionState,
     pub(crate) trail: Trail,
 }
 
@@ -37,9 +37,9 @@ impl<D: Disk + Drop> Model for Partition<D> {
     ghost use Rattle.std.specs.Prelude.{◌≤◌, length};
 
     // Each live transaction has room for the record of its end.
-    ghost invariant = { λ p. (1 ≤ p.number) × (p.number ≤ 8) × (length p.book.live ≤ p.trail.turns.1) };
+    ghost invariant = { λ p. (1 ≤ p.number) × (p.number ≤ 8) × (length p.state.live ≤ p.trail.turns.1) };
 
-    ghost view = { λ p. record { number = p.number; disk = p.disk; limits = p.limits; ledger = p.book.journal; live = p.book.live; opening = p.trail.opening; trail = p.trail.turns.0 } };
+    ghost view = { λ p. record { number = p.number; disk = p.disk; limits = p.limits; ledger = p.state.journal; live = p.state.live; opening = p.trail.opening; trail = p.trail.turns.0 } };
 }
 
 impl<D: Disk + Drop> Partition<D> {
@@ -88,12 +88,12 @@ impl<D: Disk + Drop> Partition<D> {
                     number,
                     disk,
                     limits,
-                    book: Book {
+                    state: PartitionState {
                         journal,
                         live: Live::new(alloc),
                     },
                     trail: Trail {
-                        turns: Roomy::new(alloc),
+                        turns: ReservedVec::new(alloc),
                         opening,
                     },
                 }),
@@ -139,7 +139,7 @@ impl<D: Disk + Drop> Partition<D> {
     pub fn front(&self) -> u64
         ensures { result ≡ front_of self.now }
     {
-        self.book.journal.table().front()
+        self.state.journal.table().front()
     }
 
     /// The references at this opening, and the records of the events since.
@@ -154,6 +154,6 @@ impl<D: Disk + Drop> Partition<D> {
     pub fn holds(&self, pin: &Pin) -> bool
         ensures { result ≡ is_live (pins_of self.now) pin.now }
     {
-        self.book.live.is_live(pin)
+        self.state.live.is_live(pin)
     }
 }

@@ -47,10 +47,10 @@ impl<D: Disk + Drop> Partition<D> {
         ensures called { Called D.tells D.view D.fault_count D.call_count who (Asked.Begin path seen) result.0 self.old self.new }
         ensures gives { GivesPin result.0 result.1 (free_number (pins_of self.old)) }
     {
-        if let Err(_) = take_room(&mut self.trail, self.book.live.len(), 2) {
+        if let Err(_) = take_room(&mut self.trail, self.state.live.len(), 2) {
             return (Err(Refusal::Memory), None);
         }
-        let (ended, pin) = begin(&self.limits, &mut self.book, &mut self.disk, &path, seen);
+        let (ended, pin) = begin(&self.limits, &mut self.state, &mut self.disk, &path, seen);
         let tick = self.disk.tick();
         let answer = note(
             &mut self.trail,
@@ -72,10 +72,10 @@ impl<D: Disk + Drop> Partition<D> {
         let Ok(copy) = name.clone() else {
             return Err(Refusal::Memory);
         };
-        if let Err(_) = take_room(&mut self.trail, self.book.live.len(), 1) {
+        if let Err(_) = take_room(&mut self.trail, self.state.live.len(), 1) {
             return Err(Refusal::Memory);
         }
-        let ended = get_ref(&self.limits, &self.book, pin, name);
+        let ended = get_ref(&self.limits, &self.state, pin, name);
         let tick = self.disk.tick();
         let event = Event::GetRef {
             pin: pin.number(),
@@ -94,10 +94,10 @@ impl<D: Disk + Drop> Partition<D> {
         let Ok(word) = Vec::from_slice(alloc, prefix) else {
             return Err(Refusal::Memory);
         };
-        if let Err(_) = take_room(&mut self.trail, self.book.live.len(), 1) {
+        if let Err(_) = take_room(&mut self.trail, self.state.live.len(), 1) {
             return Err(Refusal::Memory);
         }
-        let reply = list_refs(alloc, &self.limits, &self.book, pin, prefix);
+        let reply = list_refs(alloc, &self.limits, &self.state, pin, prefix);
         let tick = self.disk.tick();
         let event = Event::ListRefs {
             pin: pin.number(),
@@ -116,10 +116,10 @@ impl<D: Disk + Drop> Partition<D> {
         ensures gives { IsTrue D.tells → CatGives (memory self.old) pin.now name.now (D.view self.old.disk).reads result }
         ensures pins { pins_of self.new ≡ pins_of self.old }
     {
-        if let Err(_) = take_room(&mut self.trail, self.book.live.len(), 1) {
+        if let Err(_) = take_room(&mut self.trail, self.state.live.len(), 1) {
             return Err(Refusal::Memory);
         }
-        let reply = cat(alloc, &self.limits, &self.book, &mut self.disk, pin, name);
+        let reply = cat(alloc, &self.limits, &self.state, &mut self.disk, pin, name);
         let tick = self.disk.tick();
         let event = Event::Cat {
             pin: pin.number(),
@@ -161,7 +161,7 @@ impl<D: Disk + Drop> Partition<D> {
         ensures called { Called D.tells D.view D.fault_count D.call_count who (Asked.Commit pin.now stage.now.staged.refs stage.now.staged.records) result self.old self.new }
     {
         // a law, which does nothing, as in `commit_noted`
-        self.book.live.are_transactions();
+        self.state.live.are_transactions();
         let (Ok(refs), Ok(records)) = (stage.refs(alloc), stage.records(alloc)) else {
             return Err(Refusal::Memory);
         };
@@ -183,14 +183,14 @@ impl<D: Disk + Drop> Partition<D> {
         ensures called { Called D.tells D.view D.fault_count D.call_count who (Asked.Commit pin.now stage.now.staged.refs stage.now.staged.records) result self.old self.new }
     {
         law_stage(stage);
-        self.book.live.are_transactions();
-        if let Err(_) = take_room(&mut self.trail, self.book.live.len(), 1) {
+        self.state.live.are_transactions();
+        if let Err(_) = take_room(&mut self.trail, self.state.live.len(), 1) {
             return Err(Refusal::Memory);
         }
         let reply = commit(
             alloc,
             &self.limits,
-            &mut self.book,
+            &mut self.state,
             &mut self.disk,
             pin,
             stage,
@@ -211,7 +211,7 @@ impl<D: Disk + Drop> Partition<D> {
         ensures aborted { result ≡ Ok Answered.Aborted }
         ensures pins { pins_of self.new ≡ released (pins_of self.old) pin }
     {
-        let ended = abort(&self.limits, &mut self.book, &pin);
+        let ended = abort(&self.limits, &mut self.state, &pin);
         let tick = self.disk.tick();
         let event = Event::Abort { pin: pin.number() };
         note(&mut self.trail, tick, who, event, Reply::of(ended))

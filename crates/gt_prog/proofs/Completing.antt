@@ -6,7 +6,7 @@ use Rattle.gt_model.specs.declared.limits.Limits.{Limits}
 use Rattle.gt_script.specs.declared.request.Request.{Request}
 use Rattle.gt_prog.specs.declared.status.Status.{Status}
 use Rattle.gt_prog.specs.declared.status.Status.TheVariants.{Done, Usage, ReadFault, WriteFault, DiskFault, Damaged, Memory, BadInput, NotYet}
-use Rattle.gt_prog.specs.Script.{Fault, script_of}
+use Rattle.gt_prog.specs.Script.{ScriptFault, script_of}
 use Rattle.gt_prog.specs.Lines.{Stays}
 use Rattle.gt_prog.specs.Statuses.{AreGood, RoseEither, ReadsInput, WorkEnds, input_limit}
 
@@ -16,7 +16,7 @@ Completes status = (status ≡ Done) ⊎ (status ≡ Memory)
 
 module _ (tells : Bool) (words : List (List ℕ)) (input : Option (List ℕ)) (disk : View) (good : AreGood tells words input disk) where
   -- the script isn't at fault
-  faultless : (bad : Fault) → IfSome input (λ bytes. script_of input_limit bytes ≡ Err bad) → ⊥
+  faultless : (bad : ScriptFault) → IfSome input (λ bytes. script_of input_limit bytes ≡ Err bad) → ⊥
   faultless bad is = by (subst (λ (i : Option (List ℕ)). IfSome i (λ bytes. script_of input_limit bytes ≡ Err bad)) good.told is)
     where
       by : script_of input_limit good.bytes ≡ Err bad → ⊥

@@ -4,16 +4,16 @@ use Rattle.std.specs.declared.alloc.Global.{Global}
 use Rattle.gt_script.specs.declared.request.Request.{Request}
 use Rattle.gt_prog.specs.declared.script.ScriptError.{ScriptError}
 use Rattle.gt_prog.specs.declared.script.ScriptError.TheVariants.{BadInput, NotYet, Memory}
-use Rattle.gt_prog.specs.Script.{Fault, bad_at, not_yet_at}
+use Rattle.gt_prog.specs.Script.{ScriptFault, bad_at, not_yet_at}
 
 -- the fault is this; want of memory says nothing
-abbrev pub Fails : Result (List Request) Fault → ScriptError → Type 0
+abbrev pub Fails : Result (List Request) ScriptFault → ScriptError → Type 0
 Fails script (BadInput line at) = script ≡ Err (bad_at line at)
 Fails script (NotYet line) = script ≡ Err (not_yet_at line)
 Fails script Memory = Unit {0}
 
 -- the requests, or the fault
-abbrev pub Parses : Result (List Request) Fault → Result (Vec Request Global) ScriptError → Type 0
+abbrev pub Parses : Result (List Request) ScriptFault → Result (Vec Request Global) ScriptError → Type 0
 Parses script (Ok requests) = script ≡ Ok requests.items
 Parses script (Err e) = Fails script e
 

@@ -63,19 +63,19 @@ not_built requests = option_map (λ i. i + 1) (position (λ r. not (is_built r.f
 -- ---- the script
 
 -- Why an input is no script that can be done: this line, from 1, is bad at this place, and an input over the limit at line 0, at the limit; or this is the first line of a form that isn't built, which is tried after all lines are found good.
-pub data Fault : Type 0 where
-  bad_at : ℕ → ℕ → Fault
-  not_yet_at : ℕ → Fault
+pub data ScriptFault : Type 0 where
+  bad_at : ℕ → ℕ → ScriptFault
+  not_yet_at : ℕ → ScriptFault
 
-abbrev pub unless_unbuilt : Option ℕ → List Request → Result (List Request) Fault
+abbrev pub unless_unbuilt : Option ℕ → List Request → Result (List Request) ScriptFault
 unless_unbuilt None requests = Ok requests
 unless_unbuilt (Some line) requests = Err (not_yet_at line)
 
 -- requests that can be done, where all lines are good
-abbrev pub doable : Result (List Request) (ℕ × ℕ) → Result (List Request) Fault
+abbrev pub doable : Result (List Request) (ℕ × ℕ) → Result (List Request) ScriptFault
 doable (Ok requests) = unless_unbuilt (not_built requests) requests
 doable (Err bad) = Err (bad_at bad.0 bad.1)
 
 -- the requests of an input, whose lines are counted from 1
-abbrev pub script_of : ℕ → List ℕ → Result (List Request) Fault
+abbrev pub script_of : ℕ → List ℕ → Result (List Request) ScriptFault
 script_of limit bytes = if nat_lt limit (length bytes) then Err (bad_at 0 limit) else doable (requests_of 1 (lines_of bytes))

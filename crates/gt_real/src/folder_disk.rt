@@ -3,10 +3,10 @@ ghost use Rattle.gt_disk.specs.Files.{IsPast};
 ghost use Rattle.gt_disk.specs.Untold.{untold};
 
 use crate::counting::{counted, counted_change};
+use crate::file_set::FileSet;
 use crate::filling::fill;
 use crate::kept::{Kept, opened_to_append, other_than, replaced};
 use crate::making::owned_folder;
-use crate::names::Names;
 use crate::naming::path_of;
 use crate::trouble::{Trouble, during, tell, tell_of_file, unless_absent};
 use gt_disk::{Disk, DiskError, Failed, FileId};
@@ -30,7 +30,7 @@ pub struct FolderDisk<R: Files<File = File> + Eprint + AllocGlobal + Clone + Dro
     folder: File,
     replaced: Option<Kept<File>>,
     appended: Option<Kept<File>>,
-    names: Option<Names>,
+    names: Option<FileSet>,
     has_failed_sync: bool,
     faults: u64,
     changes: u64,
@@ -239,7 +239,7 @@ impl<R: Files<File = File> + Eprint + AllocGlobal + Clone + Drop> FolderDisk<R> 
         if let Some(names) = &self.names {
             return Ok(names.next(after));
         }
-        let names = during("list", Names::scanned(&self.rt, self.path.as_str()))?;
+        let names = during("list", FileSet::scanned(&self.rt, self.path.as_str()))?;
         let next = names.next(after);
         self.names = Some(names);
         Ok(next)

@@ -2,9 +2,9 @@ ghost use Rattle.std.specs.Prelude.{◌≡◌, ℕ, false, IfOk};
 ghost use Rattle.gt_disk.specs.Untold.{untold};
 
 use crate::counting::count_fault;
+use crate::disk_slot::{ALL_HERE, DISKS, DiskSlot, folder_of};
 use crate::folder_disk::FolderDisk;
 use crate::making::make_folder;
-use crate::place::{ALL_HERE, DISKS, Place, folder_of};
 use crate::trouble::{during, tell};
 use gt_disk::{Disk, Failed};
 use gt_outside::Host;
@@ -16,7 +16,7 @@ use std::rt::Files;
 pub struct FolderHost<R: Files<File = File> + Eprint + AllocGlobal + Clone + Drop> {
     rt: R,
     path: String,
-    places: [Place; DISKS],
+    places: [DiskSlot; DISKS],
     faults: u64,
 }
 
@@ -36,7 +36,7 @@ impl<R: Files<File = File> + Eprint + AllocGlobal + Clone + Drop> FolderHost<R> 
     }
 
     // Opens the folder of a disk, and makes it and the folder of the disks where they are absent.
-    fn opened(&self, number: u8, place: Place) -> Result<FolderDisk<R>, Failed>
+    fn opened(&self, number: u8, place: DiskSlot) -> Result<FolderDisk<R>, Failed>
         ensures count { IfOk result (λ disk. ⟦<FolderDisk<R> as Disk>⟧.fault_count disk ≡ place.faults) }
         ensures view { IfOk result (λ disk. ⟦<FolderDisk<R> as Disk>⟧.view disk ≡ untold place.changes) }
     {
@@ -61,7 +61,7 @@ impl<R: Files<File = File> + Eprint + AllocGlobal + Clone + Drop> FolderHost<R> 
 impl<R: Files<File = File> + Eprint + AllocGlobal + Clone + Drop> Host for FolderHost<R> {
     type D = FolderDisk<R>;
 
-    ghost use Rattle.gt_real.specs.Places.{is_out_at, faults_at, clock_at};
+    ghost use Rattle.gt_real.specs.DiskSlots.{is_out_at, faults_at, clock_at};
 
     ghost faults = { λ host. host.faults };
 
@@ -86,7 +86,7 @@ impl<R: Files<File = File> + Eprint + AllocGlobal + Clone + Drop> Host for Folde
     fn give(&mut self, number: u8, disk: FolderDisk<R>) {
         let index = usize::from(number);
         if index < DISKS {
-            self.places[index] = Place {
+            self.places[index] = DiskSlot {
                 is_out: false,
                 faults: disk.faults(),
                 changes: disk.tick(),

@@ -4,14 +4,14 @@
 #![tactic(auto)]
 
 mod counting;
+mod disk_slot;
+mod file_set;
 mod filling;
 mod folder_disk;
 mod folder_host;
 mod kept;
 mod making;
-mod names;
 mod naming;
-mod place;
 mod standard_input;
 mod standard_output;
 mod trouble;

@@ -6,14 +6,14 @@ ghost use Rattle.gt_versions.specs.Versions.{ready, IsUpTo};
 ghost use Rattle.gt_reftable.specs.Tracks.{PutsLife, Moves, HasRoom, IsTrackUpTo, step_updates};
 ghost use Rattle.gt_reftable.specs.Table.{IsSlotUpTo, RoomHere, Changed, Steps, step_entry};
 
-use crate::repo::Repo;
+use crate::repo::RepoRefs;
 use gt_model::{Change, Entry, RefUpdate};
 use gt_name::RepoPath;
 use std::collections::BTreeMap;
 
 /// Adds an entry at the position behind the front, in room that was taken before.
 pub(crate) fn add_next(
-    repos: &mut BTreeMap<RepoPath, Repo>,
+    repos: &mut BTreeMap<RepoPath, RepoRefs>,
     front: u64,
     position: u64,
     entry: &Entry,
@@ -26,7 +26,7 @@ pub(crate) fn add_next(
     add_entry(repos, front, entry);
 }
 
-fn add_entry(repos: &mut BTreeMap<RepoPath, Repo>, front: u64, entry: &Entry)
+fn add_entry(repos: &mut BTreeMap<RepoPath, RepoRefs>, front: u64, entry: &Entry)
     requires fits { front + 1 < 2 ^ 64 }
     requires newest { (path : List ℕ) → IsSlotUpTo front (tree.get key_cmp repos.old path) }
     requires room { RoomHere (front + 1) entry.now.change (tree.get key_cmp repos.old entry.now.path) }
@@ -45,7 +45,7 @@ fn add_entry(repos: &mut BTreeMap<RepoPath, Repo>, front: u64, entry: &Entry)
     }
 }
 
-fn put_life(repos: &mut BTreeMap<RepoPath, Repo>, position: u64, path: &RepoPath, there: bool)
+fn put_life(repos: &mut BTreeMap<RepoPath, RepoRefs>, position: u64, path: &RepoPath, there: bool)
     requires after { IfSome (tree.get key_cmp repos.old path.now) (λ r. IsUpTo position r.lives.0) }
     requires room { IfSome (tree.get key_cmp repos.old path.now) (λ r. IsTrue (ready position r.lives)) }
     ensures here { Changed (PutsLife position there) (tree.get key_cmp repos.old path.now) (tree.get key_cmp repos.new path.now) }
@@ -58,7 +58,7 @@ fn put_life(repos: &mut BTreeMap<RepoPath, Repo>, position: u64, path: &RepoPath
 }
 
 fn write(
-    repos: &mut BTreeMap<RepoPath, Repo>,
+    repos: &mut BTreeMap<RepoPath, RepoRefs>,
     position: u64,
     path: &RepoPath,
     updates: &[RefUpdate],

@@ -4,7 +4,7 @@ ghost use Rattle.gt_model.specs.Contents.{key_cmp};
 ghost use Rattle.gt_reftable.specs.Tracks.{refs_of, IsTrackUpTo};
 ghost use Rattle.gt_reftable.specs.Table.{IsSlotUpTo, ref_at, with_path, all_in};
 
-use crate::repo::Repo;
+use crate::repo::RepoRefs;
 use gt_list::NoMemory;
 use gt_model::{RefAt, RefValue, RefsAt};
 use gt_name::RepoPath;
@@ -13,7 +13,7 @@ use std::collections::BTreeMap;
 
 /// Every reference at the newest position, ascending by repository, then by name.
 pub(crate) fn list_repos(
-    repos: &BTreeMap<RepoPath, Repo>,
+    repos: &BTreeMap<RepoPath, RepoRefs>,
     alloc: Global,
     position: u64,
 ) -> Result<RefsAt, NoMemory>
@@ -36,7 +36,7 @@ fn add_repo(
     alloc: Global,
     position: u64,
     path: &RepoPath,
-    repo: &Repo,
+    repo: &RepoRefs,
 ) -> Result<(), NoMemory>
     requires { IsTrackUpTo position repo.now }
     ensures { OnOk result (out.new ≡ out.old ++ with_path path.now (refs_of repo.now position)) }

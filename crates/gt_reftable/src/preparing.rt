@@ -6,7 +6,7 @@ ghost use Rattle.gt_versions.specs.Versions.{ready};
 ghost use Rattle.gt_reftable.specs.Tracks.{HasRoom, IsRoomier};
 ghost use Rattle.gt_reftable.specs.Table.{RoomHere, Changed, Same, IsUnborn, HasRoomHere};
 
-use crate::repo::Repo;
+use crate::repo::RepoRefs;
 use gt_list::NoMemory;
 use gt_model::{Change, Entry, RefUpdate};
 use gt_name::RepoPath;
@@ -15,7 +15,7 @@ use std::collections::BTreeMap;
 
 /// Takes all the memory of adding an entry behind the front.
 pub(crate) fn prepare_entry(
-    repos: &mut BTreeMap<RepoPath, Repo>,
+    repos: &mut BTreeMap<RepoPath, RepoRefs>,
     alloc: Global,
     front: u64,
     entry: &Entry,
@@ -35,7 +35,7 @@ pub(crate) fn prepare_entry(
     }
 }
 
-fn grow_life(repos: &mut BTreeMap<RepoPath, Repo>, path: &RepoPath) -> Result<(), NoMemory>
+fn grow_life(repos: &mut BTreeMap<RepoPath, RepoRefs>, path: &RepoPath) -> Result<(), NoMemory>
     ensures here { Changed IsRoomier (tree.get key_cmp repos.old path.now) (tree.get key_cmp repos.new path.now) }
     ensures ok { OnOk result (IfSome (tree.get key_cmp repos.new path.now) (λ r. (q : ℕ) → IsTrue (ready q r.lives))) }
     ensures others { (x : List ℕ) → eq_by_cmp key_cmp path.now x ≡ false → tree.get key_cmp repos.new x ≡ tree.get key_cmp repos.old x }
@@ -47,7 +47,7 @@ fn grow_life(repos: &mut BTreeMap<RepoPath, Repo>, path: &RepoPath) -> Result<()
 }
 
 fn prepare_write(
-    repos: &mut BTreeMap<RepoPath, Repo>,
+    repos: &mut BTreeMap<RepoPath, RepoRefs>,
     alloc: Global,
     path: &RepoPath,
     updates: &[RefUpdate],
@@ -63,7 +63,7 @@ fn prepare_write(
 }
 
 fn grow_refs(
-    repos: &mut BTreeMap<RepoPath, Repo>,
+    repos: &mut BTreeMap<RepoPath, RepoRefs>,
     alloc: Global,
     path: &RepoPath,
     updates: &[RefUpdate],
@@ -80,7 +80,7 @@ fn grow_refs(
 }
 
 fn add_repo(
-    repos: &mut BTreeMap<RepoPath, Repo>,
+    repos: &mut BTreeMap<RepoPath, RepoRefs>,
     alloc: Global,
     path: &RepoPath,
     updates: &[RefUpdate],
@@ -90,7 +90,7 @@ fn add_repo(
     ensures ok { OnOk result (HasRoomHere updates.now (tree.get key_cmp repos.new path.now)) }
     ensures others { (x : List ℕ) → eq_by_cmp key_cmp path.now x ≡ false → tree.get key_cmp repos.new x ≡ tree.get key_cmp repos.old x }
 {
-    let mut repo = Repo::new(alloc);
+    let mut repo = RepoRefs::new(alloc);
     if let Err(error) = repo.prepare(alloc, updates) {
         return Err(error);
     }

@@ -20,13 +20,13 @@ use std::marker::Model;
 /// When a repository was made or deleted, and its references: all that were written, and apart those that are there at the
 /// newest position.
 #[derive(Drop)]
-pub struct Repo {
+pub struct RepoRefs {
     lives: Versions<bool>,
     refs: Slots,
     current: Current,
 }
 
-impl Model for Repo {
+impl Model for RepoRefs {
     ghost use Rattle.gt_reftable.specs.Tracks.{Track, track_code};
 
     ghost Value = { Track };
@@ -36,14 +36,14 @@ impl Model for Repo {
     ghost view = { λ r. record { lives = r.lives; refs = r.refs; current = r.current } };
 }
 
-impl Repo {
+impl RepoRefs {
     /// A repository that was never made or deleted, without references.
-    pub fn new(alloc: Global) -> Repo
+    pub fn new(alloc: Global) -> RepoRefs
         ensures lives { result.lives.0 ≡ [] }
         ensures refs { result.refs ≡ map.empty }
         ensures current { result.current ≡ map.empty }
     {
-        Repo {
+        RepoRefs {
             lives: Versions::new(alloc),
             refs: Slots::new(alloc),
             current: Current::new(alloc),

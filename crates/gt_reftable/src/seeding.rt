@@ -5,7 +5,7 @@ ghost use Rattle.gt_model.specs.Contents.{key_cmp};
 ghost use Rattle.gt_reftable.specs.Tracks.{IsRoomier};
 ghost use Rattle.gt_reftable.specs.Table.{IsSlotUpTo, Changed, Same, SeedsHere, SeedsAt};
 
-use crate::repo::Repo;
+use crate::repo::RepoRefs;
 use gt_list::NoMemory;
 use gt_name::{Name, RefName, RepoPath};
 use std::alloc::Global;
@@ -13,7 +13,7 @@ use std::collections::BTreeMap;
 
 /// Gives a reference a value at the newest position.
 pub(crate) fn seed_ref(
-    repos: &mut BTreeMap<RepoPath, Repo>,
+    repos: &mut BTreeMap<RepoPath, RepoRefs>,
     alloc: Global,
     position: u64,
     path: &RepoPath,
@@ -32,7 +32,7 @@ pub(crate) fn seed_ref(
 }
 
 fn seed_known(
-    repos: &mut BTreeMap<RepoPath, Repo>,
+    repos: &mut BTreeMap<RepoPath, RepoRefs>,
     alloc: Global,
     position: u64,
     path: &RepoPath,
@@ -52,7 +52,7 @@ fn seed_known(
 }
 
 fn seed_new(
-    repos: &mut BTreeMap<RepoPath, Repo>,
+    repos: &mut BTreeMap<RepoPath, RepoRefs>,
     alloc: Global,
     position: u64,
     path: &RepoPath,
@@ -64,7 +64,7 @@ fn seed_new(
     ensures err { OnErr result (tree.get key_cmp repos.new path.now ≡ tree.get key_cmp repos.old path.now) }
     ensures others { (x : List ℕ) → eq_by_cmp key_cmp path.now x ≡ false → tree.get key_cmp repos.new x ≡ tree.get key_cmp repos.old x }
 {
-    let mut repo = Repo::new(alloc);
+    let mut repo = RepoRefs::new(alloc);
     if let Err(error) = repo.seed(alloc, position, name, value) {
         return Err(error);
     }

@@ -9,7 +9,7 @@ ghost use Rattle.gt_reftable.specs.Table.{refs_at, all_at, Adds, Seeds, IsEmpty,
 use crate::adding::add_next;
 use crate::listing::list_repos;
 use crate::preparing::prepare_entry;
-use crate::repo::Repo;
+use crate::repo::RepoRefs;
 use crate::seeding::seed_ref;
 use gt_list::NoMemory;
 use gt_model::{Entry, RefList, RefsAt};
@@ -23,7 +23,7 @@ use std::marker::Model;
 pub struct RefTable {
     floor: u64,
     front: u64,
-    repos: BTreeMap<RepoPath, Repo>,
+    repos: BTreeMap<RepoPath, RepoRefs>,
 }
 
 impl Model for RefTable {

@@ -17,7 +17,7 @@ use Rattle.hex.specs.Hex.{encode_lower}
 use Rattle.gt_reftext.specs.declared.packed_ref.PackedRef.{PackedRef}
 use Rattle.gt_name.specs.References.{bad_ref}
 use Rattle.gt_reftext.specs.Lines.{name_of, ref_line, is_zero}
-use Rattle.gt_reftext.specs.Packed.{Entry, Sofar, put, is_named, has_name, after_line, read_from, to_ref, packed_of, list_of, Ascends}
+use Rattle.gt_reftext.specs.Packed.{Entry, PackedSoFar, put, is_named, has_name, after_line, read_from, to_ref, packed_of, list_of, Ascends}
 use Rattle.gt_reftext.specs.Spelling.{ref_text, packed_text, IsName, IsPackedRef}
 use Rattle.gt_reftext.proofs.PartsLemmas.{line_goes}
 use Rattle.gt_reftext.proofs.LineLemmas.{NoFeed, parts_line, no_feed-append, digits_feed, digits_caret, name_feed, name_back, ref_line_back}
@@ -47,10 +47,10 @@ below-append name (e ∷ es) fs h k = (h.0, below-append name es fs h.1 k)
 
 -- ---- one line
 
-goes : (n : ℕ) (s next : Sofar) (t rest : List ℕ) → NoFeed t → after_line n s t ≡ Some next → read_from s n (t ++ 10 ∷ rest) ≡ read_from next (n + 1) rest
+goes : (n : ℕ) (s next : PackedSoFar) (t rest : List ℕ) → NoFeed t → after_line n s t ≡ Some next → read_from s n (t ++ 10 ∷ rest) ≡ read_from next (n + 1) rest
 goes n s next t rest h moved = sym (line_goes n s next (t ++ 10 ∷ rest) t rest (read_from s n (t ++ 10 ∷ rest)) (parts_line t rest h) moved refl)
 
-ref_moves : (n : ℕ) (s : Sofar) (line : List ℕ) (r : PackedRef) → eqb n 1 ≡ false → starts_with nat_eq line (codes "^") ≡ false → ref_line line ≡ Some r → has_name s r.name ≡ false → after_line n s line ≡ Some (put s.0 s.1, Some r)
+ref_moves : (n : ℕ) (s : PackedSoFar) (line : List ℕ) (r : PackedRef) → eqb n 1 ≡ false → starts_with nat_eq line (codes "^") ≡ false → ref_line line ≡ Some r → has_name s r.name ≡ false → after_line n s line ≡ Some (put s.0 s.1, Some r)
 unfolding after_line
 ref_moves n s line r one caret is fresh = rw (one, caret, is, fresh) refl
 
@@ -120,7 +120,7 @@ below_next es r [] h k = tt
 below_next es r (q ∷ rs) h k = (below-append q.name es (entry r ∷ []) h.0 (k.0, tt), below_next es r rs h.1 k.1)
 
 read_all : (rs : List PackedRef) (es : List Entry) (last : Option PackedRef) (n : ℕ) → 1 < n → put es last ≡ es ++ last_list last → AllByRecursion (λ r. Below r.name (es ++ last_list last)) rs → Ascends rs → AllByRecursion IsPackedRef rs
-    → (t : Sofar) × (read_from (es, last) n (flat_map ref_text rs) ≡ Ok t) × (put t.0 t.1 ≡ (es ++ last_list last) ++ map entry rs)
+    → (t : PackedSoFar) × (read_from (es, last) n (flat_map ref_text rs) ≡ Ok t) × (put t.0 t.1 ≡ (es ++ last_list last) ++ map entry rs)
 unfolding read_from IsStrictlySortedBy
 read_all [] es last n lt placed below up good = ((es, last), refl, placed ∙ sym (append-nil (es ++ last_list last)))
 read_all (r ∷ rs) es last n lt placed below up good =

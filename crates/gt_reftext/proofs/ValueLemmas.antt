@@ -10,7 +10,7 @@ use Rattle.gt_name.specs.References.{bad_ref}
 use Rattle.gt_reftext.specs.declared.packed_ref.PackedRef.{PackedRef}
 use Rattle.gt_reftext.specs.declared.error.RefTextError.{RefTextError}
 use Rattle.gt_reftext.specs.Lines.{parts_of, name_of, ref_line, is_zero, is_header, good_reference}
-use Rattle.gt_reftext.specs.Packed.{Entry, Sofar, put, has_name, with_ref, with_peeled, after_line, or_bad, read_parts, read_from, to_ref, list_of, packed_of}
+use Rattle.gt_reftext.specs.Packed.{Entry, PackedSoFar, put, has_name, with_ref, with_peeled, after_line, or_bad, read_parts, read_from, to_ref, list_of, packed_of}
 use Rattle.gt_reftext.specs.Answers.{Gives}
 
 -- ---- entries and lines so far
@@ -25,7 +25,7 @@ abbrev LastIsObject : Option PackedRef → Type 0
 LastIsObject None = Unit {0}
 LastIsObject (Some r) = IsObject r.value
 
-abbrev Holds : Sofar → Type 0
+abbrev Holds : PackedSoFar → Type 0
 Holds s = AreObjects s.0 × LastIsObject s.1
 
 insert_holds : (es : List Entry) (k : List ℕ) (v : List ℕ × Option (List ℕ)) → AreObjects es → IsObject v.0 → AreObjects (insert_entry (slice_cmp nat_cmp) es k v)
@@ -80,25 +80,25 @@ line_holds line r e =
     both (ltb (length line) 41) None (cond (eqb (slice_index line 40) 32) found None) r X (no_some r X)
     (both (eqb (slice_index line 40) 32) found None r X (named_holds (name_of (take 40 line)) (drop 41 line) r) (no_some r X)) e
 
-with_ref_holds : (s : Sofar) (found : Option PackedRef) (next : Sofar) → Holds s → ((r : PackedRef) → found ≡ Some r → IsObject r.value) → with_ref s found ≡ Some next → Holds next
+with_ref_holds : (s : PackedSoFar) (found : Option PackedRef) (next : PackedSoFar) → Holds s → ((r : PackedRef) → found ≡ Some r → IsObject r.value) → with_ref s found ≡ Some next → Holds next
 with_ref_holds s None next h g e = no_some next (Holds next) e
 with_ref_holds s (Some r) next h g e =
-    let made : Sofar = (put s.0 s.1, Some r) in
+    let made : PackedSoFar = (put s.0 s.1, Some r) in
     let holds : Holds made = (put_holds s.0 s.1 h.0 h.1, g r refl) in
     both (has_name s r.name) None (some made) next (Holds next) (no_some next (Holds next)) (λ f. subst Holds (is_some made next f) holds) e
 
-with_peeled_holds : (es : List Entry) (last : Option PackedRef) (name : Option (List ℕ)) (next : Sofar) → Holds (es, last) → with_peeled es last name ≡ Some next → Holds next
+with_peeled_holds : (es : List Entry) (last : Option PackedRef) (name : Option (List ℕ)) (next : PackedSoFar) → Holds (es, last) → with_peeled es last name ≡ Some next → Holds next
 with_peeled_holds es None name next h e = no_some next (Holds next) e
 with_peeled_holds es (Some r) None next h e = no_some next (Holds next) e
 with_peeled_holds es (Some r) (Some p) next h e =
-    let made : Sofar = (es, Some (record { name = r.name; value = r.value; peeled = Some p })) in
+    let made : PackedSoFar = (es, Some (record { name = r.name; value = r.value; peeled = Some p })) in
     both (is_none r.peeled) (some made) None next (Holds next) (λ f. subst Holds (is_some made next f) h) (no_some next (Holds next)) e
 
-after_holds : (n : ℕ) (s : Sofar) (line : List ℕ) (next : Sofar) → Holds s → after_line n s line ≡ Some next → Holds next
+after_holds : (n : ℕ) (s : PackedSoFar) (line : List ℕ) (next : PackedSoFar) → Holds s → after_line n s line ≡ Some next → Holds next
 unfolding after_line
 after_holds n s line next h e =
-    let peeled : Option Sofar = with_peeled s.0 s.1 (name_of (drop 1 line)) in
-    let named : Option Sofar = with_ref s (ref_line line) in
+    let peeled : Option PackedSoFar = with_peeled s.0 s.1 (name_of (drop 1 line)) in
+    let named : Option PackedSoFar = with_ref s (ref_line line) in
     let caret : Bool = starts_with nat_eq line (codes "^") in
     both (is_header n line) (some s) (cond caret peeled named) next (Holds next)
     (λ f. subst Holds (is_some s next f) h)
@@ -115,13 +115,13 @@ kept : {A : Type 0} (c : Bool) (n : ℕ) (x y : A) → cond c (Ok x) (Err n) ≡
 kept true n x y e = cc
 kept false n x y e = absurd cc
 
-parts_hold : (more : List (List ℕ)) (part : List ℕ) (n : ℕ) (s t : Sofar) → Holds s → read_parts s n part more ≡ Ok t → Holds t
+parts_hold : (more : List (List ℕ)) (part : List ℕ) (n : ℕ) (s t : PackedSoFar) → Holds s → read_parts s n part more ≡ Ok t → Holds t
 parts_hold [] part n s t h e = subst Holds (kept (eqb (length part) 0) n s t e) h
 parts_hold (next ∷ more) part n s t h e =
     let w = went_on n (after_line n s part) (λ u. read_parts u (n + 1) next more) t e in
     parts_hold more next (n + 1) w.0 t (after_holds n s part w.0 h w.1) w.2
 
-from_holds : (n : ℕ) (s t : Sofar) (text : List ℕ) → Holds s → read_from s n text ≡ Ok t → Holds t
+from_holds : (n : ℕ) (s t : PackedSoFar) (text : List ℕ) → Holds s → read_from s n text ≡ Ok t → Holds t
 unfolding read_from
 from_holds n s t text h e = parts_hold (parts_of text).1 (parts_of text).0 n s t h e
 
@@ -139,7 +139,7 @@ done x = Ok x
 is_done : {A : Type 0} (x y : A) → done x ≡ Ok y → x ≡ y
 is_done x y e = cc
 
-list_holds : (r : Result Sofar ℕ) (list : List PackedRef) → ((t : Sofar) → r ≡ Ok t → Holds t) → list_of r ≡ Ok list → NoneIsZero list
+list_holds : (r : Result PackedSoFar ℕ) (list : List PackedRef) → ((t : PackedSoFar) → r ≡ Ok t → Holds t) → list_of r ≡ Ok list → NoneIsZero list
 list_holds (Ok t) list h e = subst NoneIsZero (is_done (map to_ref (put t.0 t.1)) list e) (values_pass (put t.0 t.1) (put_holds t.0 t.1 (h t refl).0 (h t refl).1))
 list_holds (Err n) list h e = absurd cc
 

@@ -2,7 +2,7 @@
 use Rattle.std.specs.Prelude.{◌≡◌, ℕ, [], Result, Ok, Err, Option, Some, None}
 use Rattle.gt_reftext.specs.declared.error.RefTextError.{RefTextError}
 use Rattle.gt_reftext.specs.declared.error.RefTextError.TheVariants.{BadLine, Memory}
-use Rattle.gt_reftext.specs.declared.sofar.Sofar.{Sofar}
+use Rattle.gt_reftext.specs.declared.so_far.PackedSoFar.{PackedSoFar}
 use Rattle.gt_reftext.specs.Packed as packed
 
 -- The error is the number of the first bad line, or memory ran out.
@@ -16,26 +16,26 @@ Gives (Ok x) read = read ≡ Ok x
 Gives (Err e) read = Fails e read
 
 -- the references so far as the definitions see them
-abbrev pub seen : Sofar → packed.Sofar
+abbrev pub seen : PackedSoFar → packed.PackedSoFar
 seen s = (s.done.entries, s.last)
 
 -- What was answered is what the line makes of those so far, or memory ran out.
-abbrev pub Moves : ℕ → Result Sofar RefTextError → Option packed.Sofar → Type 0
+abbrev pub Moves : ℕ → Result PackedSoFar RefTextError → Option packed.PackedSoFar → Type 0
 Moves number (Ok s) after = after ≡ Some (seen s)
 Moves number (Err Memory) after = Unit {0}
 Moves number (Err (BadLine line)) after = (after ≡ None) × (line ≡ number)
 
-abbrev pub GivesSofar : Result Sofar RefTextError → Result packed.Sofar ℕ → Type 0
-GivesSofar (Ok s) read = read ≡ Ok (seen s)
-GivesSofar (Err e) read = Fails e read
+abbrev pub GivesSoFar : Result PackedSoFar RefTextError → Result packed.PackedSoFar ℕ → Type 0
+GivesSoFar (Ok s) read = read ≡ Ok (seen s)
+GivesSoFar (Err e) read = Fails e read
 
 -- What was answered is this.
-abbrev pub Is : Option Sofar → Option packed.Sofar → Type 0
+abbrev pub Is : Option PackedSoFar → Option packed.PackedSoFar → Type 0
 Is None after = after ≡ None
 Is (Some s) after = after ≡ Some (seen s)
 
 -- Before the first reference.
-abbrev pub IsNothing : packed.Sofar → Type 0
+abbrev pub IsNothing : packed.PackedSoFar → Type 0
 IsNothing s = (s.0 ≡ []) × (s.1 ≡ None)
 
 -- This holds where memory ran out.
@@ -44,6 +44,6 @@ OnMemory (Ok x) P = Unit {0}
 OnMemory (Err e) P = e ≡ Memory → P
 
 -- What has a reference has one from its first line on, but for a header.
-abbrev pub IsBegunBy : Result Sofar RefTextError → Type 0 → Type 0
+abbrev pub IsBegunBy : Result PackedSoFar RefTextError → Type 0 → Type 0
 IsBegunBy (Ok s) P = ¬ IsNothing (seen s) → P
 IsBegunBy (Err e) P = Unit {0}

@@ -14,8 +14,8 @@ abbrev pub Entry : Type 0
 Entry = List ℕ × (List ℕ × Option (List ℕ))
 
 -- the references of the lines so far: those before the last one, ascending by name, and the last one
-abbrev pub Sofar : Type 0
-Sofar = List Entry × Option PackedRef
+abbrev pub PackedSoFar : Type 0
+PackedSoFar = List Entry × Option PackedRef
 
 -- put at its place by name
 abbrev pub put : List Entry → Option PackedRef → List Entry
@@ -27,45 +27,45 @@ is_named None name = false
 is_named (Some r) name = bytes_eq r.name name
 
 -- the name stands among those so far
-abbrev pub has_name : Sofar → List ℕ → Bool
-has_name sofar name = is_named sofar.1 name || is_some (lookup (is_at (slice_cmp nat_cmp name)) sofar.0)
+abbrev pub has_name : PackedSoFar → List ℕ → Bool
+has_name so_far name = is_named so_far.1 name || is_some (lookup (is_at (slice_cmp nat_cmp name)) so_far.0)
 
 -- one reference more; none where its name stands there already
-abbrev pub with_ref : Sofar → Option PackedRef → Option Sofar
-with_ref sofar None = None
-with_ref sofar (Some r) = if has_name sofar r.name then None else Some (put sofar.0 sofar.1, Some r)
+abbrev pub with_ref : PackedSoFar → Option PackedRef → Option PackedSoFar
+with_ref so_far None = None
+with_ref so_far (Some r) = if has_name so_far r.name then None else Some (put so_far.0 so_far.1, Some r)
 
 -- a peeled name for the last reference, which must have none yet
-abbrev pub with_peeled : List Entry → Option PackedRef → Option (List ℕ) → Option Sofar
+abbrev pub with_peeled : List Entry → Option PackedRef → Option (List ℕ) → Option PackedSoFar
 with_peeled done None name = None
 with_peeled done (Some r) None = None
 with_peeled done (Some r) (Some name) = if is_none r.peeled then Some (done, Some (record { name = r.name; value = r.value; peeled = Some name })) else None
 
 -- what the line of this number makes of those so far; none where it may not stand there
-unfoldable pub after_line : ℕ → Sofar → List ℕ → Option Sofar
-after_line number sofar line =
-    if is_header number line then Some sofar
-    else if starts_with nat_eq line (codes "^") then with_peeled sofar.0 sofar.1 (name_of (drop 1 line))
-    else with_ref sofar (ref_line line)
+unfoldable pub after_line : ℕ → PackedSoFar → List ℕ → Option PackedSoFar
+after_line number so_far line =
+    if is_header number line then Some so_far
+    else if starts_with nat_eq line (codes "^") then with_peeled so_far.0 so_far.1 (name_of (drop 1 line))
+    else with_ref so_far (ref_line line)
 
 abbrev pub or_bad : {A B : Type 0} → ℕ → Option A → (A → Result B ℕ) → Result B ℕ
 or_bad number None go_on = Err number
 or_bad number (Some x) go_on = go_on x
 
 -- each part but the last is a line, and the last one has to be empty; else the number of the first bad line
-abbrev pub read_parts : Sofar → ℕ → List ℕ → List (List ℕ) → Result Sofar ℕ
-read_parts sofar number part [] = if length part == 0 then Ok sofar else Err number
-read_parts sofar number part (next ∷ more) = or_bad number (after_line number sofar part) (λ s. read_parts s (number + 1) next more)
+abbrev pub read_parts : PackedSoFar → ℕ → List ℕ → List (List ℕ) → Result PackedSoFar ℕ
+read_parts so_far number part [] = if length part == 0 then Ok so_far else Err number
+read_parts so_far number part (next ∷ more) = or_bad number (after_line number so_far part) (λ s. read_parts s (number + 1) next more)
 
 -- from a line of this number on
-unfoldable pub read_from : Sofar → ℕ → List ℕ → Result Sofar ℕ
-read_from sofar number text = read_parts sofar number (parts_of text).0 (parts_of text).1
+unfoldable pub read_from : PackedSoFar → ℕ → List ℕ → Result PackedSoFar ℕ
+read_from so_far number text = read_parts so_far number (parts_of text).0 (parts_of text).1
 
 abbrev pub to_ref : Entry → PackedRef
 to_ref e = record { name = e.0; value = e.1.0; peeled = e.1.1 }
 
-abbrev pub list_of : Result Sofar ℕ → Result (List PackedRef) ℕ
-list_of (Ok sofar) = Ok (map to_ref (put sofar.0 sofar.1))
+abbrev pub list_of : Result PackedSoFar ℕ → Result (List PackedRef) ℕ
+list_of (Ok so_far) = Ok (map to_ref (put so_far.0 so_far.1))
 list_of (Err number) = Err number
 
 -- the references of a packed file, ascending by name, or the number of its first bad line

@@ -8,7 +8,7 @@ mod lines;
 mod loose;
 mod packed_ref;
 mod reading;
-mod sofar;
+mod so_far;
 mod writing;
 
 pub use error::{BadLine, RefTextError};

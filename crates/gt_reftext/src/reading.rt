@@ -2,31 +2,31 @@ ghost use Rattle.std.specs.Prelude.{◌≡◌, [], IfOk, not};
 ghost use Rattle.std.specs.List.{AllPass};
 ghost use Rattle.gt_reftext.specs.Lines.{is_zero, BeginsWell};
 ghost use Rattle.gt_reftext.specs.Packed.{read_from, packed_of, Ascends};
-ghost use Rattle.gt_reftext.specs.Answers.{Gives, GivesSofar, OnMemory, IsBegunBy};
+ghost use Rattle.gt_reftext.specs.Answers.{Gives, GivesSoFar, OnMemory, IsBegunBy};
 
 use crate::lines::first_line;
-use crate::sofar::{Sofar, after_line, nothing, whole};
+use crate::so_far::{PackedSoFar, after_line, nothing, whole};
 use crate::{PackedList, RefTextError};
 use std::alloc::Global;
 
 /// The references of all lines.
-fn read_lines(alloc: Global, text: &[u8]) -> Result<Sofar, RefTextError>
-    ensures read { GivesSofar result (read_from ([], None) 1 text.now) }
+fn read_lines(alloc: Global, text: &[u8]) -> Result<PackedSoFar, RefTextError>
+    ensures read { GivesSoFar result (read_from ([], None) 1 text.now) }
     ensures begun { IsBegunBy result (BeginsWell text.now) }
     ensures memory { OnMemory result (BeginsWell text.now) }
 {
-    let mut sofar = nothing(alloc);
+    let mut so_far = nothing(alloc);
     let mut rest = text;
     let mut number = 1;
     'lines: while let Some((line, after)) = first_line(rest) {
-        sofar = after_line(alloc, sofar, number, line)?;
+        so_far = after_line(alloc, so_far, number, line)?;
         rest = after;
         number += 1;
     }
     if !rest.is_empty() {
         return Err(RefTextError::BadLine { line: number });
     }
-    Ok(sofar)
+    Ok(so_far)
 }
 
 fn read_list(alloc: Global, bytes: &[u8]) -> Result<PackedList, RefTextError>
@@ -34,8 +34,8 @@ fn read_list(alloc: Global, bytes: &[u8]) -> Result<PackedList, RefTextError>
     ensures memory { OnMemory result (BeginsWell bytes.now) }
     ensures ascending { IfOk result Ascends }
 {
-    let sofar = read_lines(alloc, bytes)?;
-    let list = whole(alloc, sofar)?;
+    let so_far = read_lines(alloc, bytes)?;
+    let list = whole(alloc, so_far)?;
     Ok(list)
 }
 

@@ -8,7 +8,7 @@ ghost use Rattle.gt_slots.specs.Pages.{all, rest, IsWell, IsPlace};
 ghost use Rattle.gt_slots.specs.Present.{refs_since};
 ghost use Rattle.gt_slots.specs.Clashing.{is_gone, stands, folders, standing, seek, sought};
 
-use crate::finding::{Place, find_place, look, page_at, pages_from, slots_from};
+use crate::finding::{SlotIndex, find_place, look, page_at, pages_from, slots_from};
 use crate::page::{Page, Slot};
 use gt_name::{Names2, RefName};
 
@@ -102,7 +102,7 @@ fn standing<'a>(
 /// The least reference from a place on that stands in a folder.
 fn inside_from<'a>(
     pages: &'a [Page],
-    place: Place,
+    place: SlotIndex,
     folder: &[u8],
     start: u64,
     position: u64,

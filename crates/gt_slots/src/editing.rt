@@ -7,7 +7,7 @@ ghost use Rattle.gt_versions.proofs.Keys.{at_key};
 ghost use Rattle.gt_slots.specs.Slots.{items_of, slot_ready, IsRoomier};
 ghost use Rattle.gt_slots.specs.Pages.{all, page, IsWell, IsAt, Edits};
 
-use crate::finding::{Place, find};
+use crate::finding::{SlotIndex, find};
 use crate::inserting::insert_new;
 use crate::page::Page;
 use gt_list::NoMemory;
@@ -31,7 +31,7 @@ pub(crate) fn put_slot(pages: &mut Vec<Page>, position: u64, name: &RefName, val
     put_at(pages, place, position, value);
 }
 
-fn put_at(pages: &mut Vec<Page>, place: Place, position: u64, value: Option<Name>)
+fn put_at(pages: &mut Vec<Page>, place: SlotIndex, position: u64, value: Option<Name>)
     requires page_fits { place.page < length pages.old.items }
     requires slot_fits { place.slot < length (page pages.old.items place.page) }
     requires after { (d : List ℕ × (List (ℕ × Option (List ℕ)) × ℕ)) → IsUpTo position (slice_index_or (page pages.old.items place.page) place.slot d).1.0 }
@@ -63,7 +63,7 @@ pub(crate) fn prepare_slot(
 }
 
 /// Takes room for a further value of the reference at a place.
-fn grow_at(pages: &mut Vec<Page>, place: Place) -> Result<(), NoMemory>
+fn grow_at(pages: &mut Vec<Page>, place: SlotIndex) -> Result<(), NoMemory>
     requires page_fits { place.page < length pages.old.items }
     requires slot_fits { place.slot < length (page pages.old.items place.page) }
     ensures same { Edits place.page place.slot pages.old.items pages.new.items }

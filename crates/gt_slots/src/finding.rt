@@ -8,22 +8,22 @@ use crate::page::{Page, Slot, count_before, ends_before};
 
 /// The index of a page, and of a reference in it.
 #[derive(Clone, Copy)]
-pub(crate) struct Place {
+pub(crate) struct SlotIndex {
     pub(crate) page: usize,
     pub(crate) slot: usize,
 }
 
 /// Where what isn't before a text begins.
-pub(crate) fn find_place(pages: &[Page], text: &[u8], slash: bool) -> Place
+pub(crate) fn find_place(pages: &[Page], text: &[u8], slash: bool) -> SlotIndex
     requires { IsWell pages.now }
     ensures { IsPlace (probe text.now slash) pages.now result.page result.slot }
 {
     let page = pages_before(pages, text, slash);
     match page_at(pages, page) {
-        None => Place { page, slot: 0 },
+        None => SlotIndex { page, slot: 0 },
         Some(found) => {
             let slot = count_before(found.slots(), text, slash);
-            Place { page, slot }
+            SlotIndex { page, slot }
         }
     }
 }
@@ -57,7 +57,7 @@ fn slot_of(slots: &[Slot], at: usize) -> Option<&Slot>
 }
 
 /// The reference at a place. None behind the last page.
-pub(crate) fn slot_at(pages: &[Page], place: Place) -> Option<&Slot>
+pub(crate) fn slot_at(pages: &[Page], place: SlotIndex) -> Option<&Slot>
     ensures { option_copied result ≡ slice_get (page pages.now place.page) place.slot }
 {
     match page_at(pages, place.page) {
@@ -67,7 +67,7 @@ pub(crate) fn slot_at(pages: &[Page], place: Place) -> Option<&Slot>
 }
 
 /// The place of a reference. None where it isn't there.
-pub(crate) fn find(pages: &[Page], name: &[u8]) -> Option<Place>
+pub(crate) fn find(pages: &[Page], name: &[u8]) -> Option<SlotIndex>
     requires { IsWell pages.now }
     ensures some { IfSome result (λ r. IsAt name.now pages.now r.page r.slot) }
     ensures none { IfNone result (at_key (all pages.now) name.now ≡ None) }

@@ -2,7 +2,7 @@ ghost use Rattle.std.specs.Prelude.{◌≡◌, ◌<◌, ◌≤◌, ◌-◌, ◌�
 ghost use Rattle.gt_versions.proofs.Keys.{at_key};
 ghost use Rattle.gt_slots.specs.Pages.{all, page, page_limit, AllBefore, IsWell, IsPlace, HasRoom, IsHalved, IsSplit, Inserts};
 
-use crate::finding::{Place, find_place, page_at};
+use crate::finding::{SlotIndex, find_place, page_at};
 use crate::page::{Page, Slot};
 use gt_list::NoMemory;
 use std::alloc::Global;
@@ -105,7 +105,7 @@ fn split_half(pages: &mut Vec<Page>, at: usize) -> Result<Page, NoMemory>
 }
 
 /// Adds a reference at a place in a page.
-fn insert_at(pages: &mut Vec<Page>, place: Place, slot: Slot) -> Result<(), NoMemory>
+fn insert_at(pages: &mut Vec<Page>, place: SlotIndex, slot: Slot) -> Result<(), NoMemory>
     requires well { IsWell pages.old.items }
     requires place { IsPlace slot.0 pages.old.items place.page place.slot }
     requires fits { place.page < length pages.old.items }

@@ -2,7 +2,7 @@ ghost use Rattle.std.specs.Prelude.{◌≡◌, ◌++◌, [], ◌∷◌, OnOk, If
 ghost use Rattle.gt_slots.specs.Pages.{all, rest, IsPlace};
 ghost use Rattle.gt_slots.specs.Listing.{taken, all_begin, values_of};
 
-use crate::finding::{Place, page_at, pages_from, slots_from};
+use crate::finding::{SlotIndex, page_at, pages_from, slots_from};
 use crate::page::{Page, Slot};
 use gt_list::NoMemory;
 use gt_model::{RefList, RefValue};
@@ -12,7 +12,7 @@ use gt_model::{RefList, RefValue};
 pub(crate) fn list_from(
     out: &mut RefList,
     pages: &[Page],
-    place: Place,
+    place: SlotIndex,
     prefix: &[u8],
     start: u64,
     position: u64,

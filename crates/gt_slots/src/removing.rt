@@ -5,7 +5,7 @@ ghost use Rattle.gt_model.specs.Contents.{key_cmp};
 ghost use Rattle.gt_versions.proofs.Keys.{at_key};
 ghost use Rattle.gt_slots.specs.Pages.{all, page, IsWell, IsAt, Inserts};
 
-use crate::finding::{Place, find};
+use crate::finding::{SlotIndex, find};
 use crate::page::Page;
 use gt_name::RefName;
 
@@ -22,7 +22,7 @@ pub(crate) fn remove_slot(pages: &mut Vec<Page>, name: &RefName)
 }
 
 /// Takes out the reference at a place, and the page with it that has no other.
-fn remove_at(pages: &mut Vec<Page>, place: Place)
+fn remove_at(pages: &mut Vec<Page>, place: SlotIndex)
     requires well { IsWell pages.old.items }
     requires page_fits { place.page < length pages.old.items }
     requires slot_fits { place.slot < length (page pages.old.items place.page) }
@@ -53,7 +53,7 @@ fn remove_page(pages: &mut Vec<Page>, at: usize)
     let _page = pages.remove(at);
 }
 
-fn remove_in_page(pages: &mut Vec<Page>, place: Place)
+fn remove_in_page(pages: &mut Vec<Page>, place: SlotIndex)
     requires page_fits { place.page < length pages.old.items }
     requires slot_fits { place.slot < length (page pages.old.items place.page) }
     ensures { pages.new.items ≡ slice_set pages.old.items place.page (remove (page pages.old.items place.page) place.slot) }

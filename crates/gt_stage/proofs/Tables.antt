@@ -13,24 +13,24 @@ use Rattle.indexmap.specs.IndexMap.{insert_entry}
 use Rattle.gt_model.specs.declared.added.Added.{Added}
 use Rattle.gt_model.specs.declared.update.RefUpdate.{RefUpdate}
 use Rattle.gt_model.specs.Verdicts.{same_name}
-use Rattle.gt_stage.specs.declared.refs.Aim.{Aim}
+use Rattle.gt_stage.specs.declared.refs.StagedRef.{StagedRef}
 use Rattle.gt_stage.specs.Staging.{Holding, staged_put, staged_check, has_ref, with_set, with_check, has_record, own_record, with_put, size, IsEachOnce}
-use Rattle.gt_stage.specs.Layout.{update_of, updates_of, aim_in, with_new, record_of, added_of, IsCounted}
+use Rattle.gt_stage.specs.Layout.{update_of, updates_of, staged_in, with_new, record_of, added_of, IsCounted}
 
 -- ---- references
 
-abbrev as_aim : RefUpdate → Aim
-as_aim u = record { old = u.old; new = u.new }
+abbrev as_staged : RefUpdate → StagedRef
+as_staged u = record { old = u.old; new = u.new }
 
-pub aim_in-table : (es : List (List ℕ × Aim)) (q : List ℕ) → aim_in (updates_of es) q ≡ lookup (same_name q) es
-aim_in-table [] q = refl
-aim_in-table (e ∷ es) q =
-    elim (same_name q e.0) as (λ b. option_map as_aim (cond b (Some (update_of e)) (find (λ u. same_name q u.name) (updates_of es))) ≡ cond b (Some e.1) (lookup (same_name q) es)) [
+pub staged_in-table : (es : List (List ℕ × StagedRef)) (q : List ℕ) → staged_in (updates_of es) q ≡ lookup (same_name q) es
+staged_in-table [] q = refl
+staged_in-table (e ∷ es) q =
+    elim (same_name q e.0) as (λ b. option_map as_staged (cond b (Some (update_of e)) (find (λ u. same_name q u.name) (updates_of es))) ≡ cond b (Some e.1) (lookup (same_name q) es)) [
       | true ↦ refl
-      | false ↦ aim_in-table es q
+      | false ↦ staged_in-table es q
     ]
 
-pub has_ref-table : (es : List (List ℕ × Aim)) (q : List ℕ) → has_ref (updates_of es) q ≡ is_some (lookup (same_name q) es)
+pub has_ref-table : (es : List (List ℕ × StagedRef)) (q : List ℕ) → has_ref (updates_of es) q ≡ is_some (lookup (same_name q) es)
 has_ref-table [] q = refl
 has_ref-table (e ∷ es) q = by (same_name q e.0) (has_ref-table es q)
   where
@@ -38,7 +38,7 @@ has_ref-table (e ∷ es) q = by (same_name q e.0) (has_ref-table es q)
     by true h = refl
     by false h = h
 
-pub with_set-table : (es : List (List ℕ × Aim)) (q old new : List ℕ) → with_set (updates_of es) q old new ≡ updates_of (insert_entry same_name es q (with_new (lookup (same_name q) es) old new))
+pub with_set-table : (es : List (List ℕ × StagedRef)) (q old new : List ℕ) → with_set (updates_of es) q old new ≡ updates_of (insert_entry same_name es q (with_new (lookup (same_name q) es) old new))
 with_set-table [] q old new = refl
 with_set-table (e ∷ es) q old new = by (same_name q e.0) (with_set-table es q old new)
   where
@@ -48,7 +48,7 @@ with_set-table (e ∷ es) q old new = by (same_name q e.0) (with_set-table es q 
     by true h = refl
     by false h = ap (λ (us : List RefUpdate). update_of e ∷ us) h
 
-pub with_check-table : (es : List (List ℕ × Aim)) (q old : List ℕ) → lookup (same_name q) es ≡ None → with_check (updates_of es) q old ≡ updates_of (insert_entry same_name es q (record { old = old; new = None }))
+pub with_check-table : (es : List (List ℕ × StagedRef)) (q old : List ℕ) → lookup (same_name q) es ≡ None → with_check (updates_of es) q old ≡ updates_of (insert_entry same_name es q (record { old = old; new = None }))
 with_check-table [] q old none = refl
 with_check-table (e ∷ es) q old none = by (same_name q e.0) (with_check-table es q old) none
   where
@@ -103,7 +103,7 @@ with_put-new (a ∷ as') whole none = by (same_name (sha1 whole) a.name) (with_p
     by false h none = ap (λ (bs : List Added). a ∷ bs) (h none)
 
 -- the names of a table
-pub names-updates : (es : List (List ℕ × Aim)) → map (λ u. u.name) (updates_of es) ≡ keys_of es
+pub names-updates : (es : List (List ℕ × StagedRef)) → map (λ u. u.name) (updates_of es) ≡ keys_of es
 names-updates [] = refl
 names-updates (e ∷ es) = ap (λ (ns : List (List ℕ)). e.0 ∷ ns) (names-updates es)
 
@@ -130,12 +130,12 @@ insert_new {X} (e ∷ es) q v none = by (same_name q e.0) (insert_new es q v) no
     by true h none = cc
     by false h none = ap (λ (fs : List (List ℕ × X)). e ∷ fs) (h none)
 
-pub set_done : (us : List RefUpdate) (es fs : List (List ℕ × Aim)) (q old new : List ℕ) (first : Option Aim) (aim : Aim)
-    → updates_of es ≡ us → first ≡ lookup (same_name q) es → aim ≡ with_new first old new → fs ≡ insert_entry same_name es q aim → updates_of fs ≡ with_set us q old new
-set_done us es fs q old new first aim is found made put =
-    ap updates_of (put ∙ ap (insert_entry same_name es q) (made ∙ ap (λ (o : Option Aim). with_new o old new) found)) ∙ sym (with_set-table es q old new) ∙ ap (λ (vs : List RefUpdate). with_set vs q old new) is
+pub set_done : (us : List RefUpdate) (es fs : List (List ℕ × StagedRef)) (q old new : List ℕ) (first : Option StagedRef) (staged : StagedRef)
+    → updates_of es ≡ us → first ≡ lookup (same_name q) es → staged ≡ with_new first old new → fs ≡ insert_entry same_name es q staged → updates_of fs ≡ with_set us q old new
+set_done us es fs q old new first staged is found made put =
+    ap updates_of (put ∙ ap (insert_entry same_name es q) (made ∙ ap (λ (o : Option StagedRef). with_new o old new) found)) ∙ sym (with_set-table es q old new) ∙ ap (λ (vs : List RefUpdate). with_set vs q old new) is
 
-pub check_done : (us : List RefUpdate) (es fs : List (List ℕ × Aim)) (q old : List ℕ)
+pub check_done : (us : List RefUpdate) (es fs : List (List ℕ × StagedRef)) (q old : List ℕ)
     → updates_of es ≡ us → has_ref us q ≡ false → fs ≡ insert_entry same_name es q (record { old = old; new = None }) → updates_of fs ≡ with_check us q old
 check_done us es fs q old is absent put =
     let none : lookup (same_name q) es ≡ None = is_none (lookup (same_name q) es) (sym (has_ref-table es q) ∙ ap (λ (vs : List RefUpdate). has_ref vs q) is ∙ absent) in

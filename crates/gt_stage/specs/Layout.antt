@@ -6,26 +6,26 @@ use Rattle.sha1.specs.Sha1.{sha1}
 use Rattle.gt_model.specs.declared.added.Added.{Added}
 use Rattle.gt_model.specs.declared.update.RefUpdate.{RefUpdate}
 use Rattle.gt_model.specs.Verdicts.{same_name}
-use Rattle.gt_stage.specs.declared.refs.Aim.{Aim}
+use Rattle.gt_stage.specs.declared.refs.StagedRef.{StagedRef}
 use Rattle.gt_stage.specs.Staging.{size, IsEachOnce}
 
 -- ---- references
 
-abbrev pub update_of : List ℕ × Aim → RefUpdate
+abbrev pub update_of : List ℕ × StagedRef → RefUpdate
 update_of e = record { name = e.0; old = e.1.old; new = e.1.new }
 
-abbrev pub updates_of : List (List ℕ × Aim) → List RefUpdate
+abbrev pub updates_of : List (List ℕ × StagedRef) → List RefUpdate
 updates_of es = map update_of es
 
 -- what is staged of a reference
-abbrev pub aim_in : List RefUpdate → List ℕ → Option Aim
-aim_in refs name = option_map (λ u. record { old = u.old; new = u.new }) (find (λ u. same_name name u.name) refs)
+abbrev pub staged_in : List RefUpdate → List ℕ → Option StagedRef
+staged_in refs name = option_map (λ u. record { old = u.old; new = u.new }) (find (λ u. same_name name u.name) refs)
 
 -- the first old value, or else this one, and the new value
-abbrev pub with_new : Option Aim → List ℕ → List ℕ → Aim
+abbrev pub with_new : Option StagedRef → List ℕ → List ℕ → StagedRef
 with_new first old new = record { old = option_map_or (λ a. a.old) first old; new = Some new }
 
-abbrev pub HasDistinctKeys : List (List ℕ × Aim) → Type 0
+abbrev pub HasDistinctKeys : List (List ℕ × StagedRef) → Type 0
 HasDistinctKeys es = IsEachOnce (keys_of es)
 
 -- ---- records

@@ -1,7 +1,7 @@
 ghost use Rattle.std.specs.Prelude.{◌≡◌, ◌<◌, [], Some, None, IfOk, OnOk, OnErr, slice_get, length, map, false};
 ghost use Rattle.std.specs.Option.{option_map};
 ghost use Rattle.gt_stage.specs.Staging.{has_ref, with_set, with_check, IsEachOnce};
-ghost use Rattle.gt_stage.specs.Layout.{aim_in, with_new};
+ghost use Rattle.gt_stage.specs.Layout.{staged_in, with_new};
 
 use gt_list::NoMemory;
 use gt_model::{RefUpdate, RefUpdates};
@@ -12,7 +12,7 @@ use std::marker::Model;
 
 /// What is staged of a reference: the value that is expected there, and the one that it gets. None is a check.
 #[derive(Clone, Copy)]
-pub(crate) struct Aim {
+pub(crate) struct StagedRef {
     pub(crate) old: Name,
     pub(crate) new: Option<Name>,
 }
@@ -20,7 +20,7 @@ pub(crate) struct Aim {
 /// Updates and checks in order of first staging. Contracts see their list.
 #[derive(Drop)]
 pub(crate) struct StagedRefs {
-    table: IndexMap<RefName, Aim>,
+    table: IndexMap<RefName, StagedRef>,
 }
 
 impl Model for StagedRefs {
@@ -46,8 +46,8 @@ impl StagedRefs {
     }
 
     /// What is staged of a reference.
-    pub(crate) fn get(&self, name: &RefName) -> Option<Aim>
-        ensures { result ≡ aim_in self.now name.now }
+    pub(crate) fn get(&self, name: &RefName) -> Option<StagedRef>
+        ensures { result ≡ staged_in self.now name.now }
     {
         self.table.get(name).copied()
     }
@@ -65,11 +65,11 @@ impl StagedRefs {
         self.table.len()
     }
 
-    pub(crate) fn at(&self, i: usize) -> Option<(&RefName, Aim)>
+    pub(crate) fn at(&self, i: usize) -> Option<(&RefName, StagedRef)>
         ensures { option_map (λ p. record { name = p.0.now; old = p.1.old; new = p.1.new }) result ≡ slice_get self.now i }
     {
         match self.table.get_index(i) {
-            Some((name, aim)) => Some((name, *aim)),
+            Some((name, staged)) => Some((name, *staged)),
             None => None,
         }
     }
@@ -80,10 +80,10 @@ impl StagedRefs {
         ensures { IfOk result (λ update. slice_get self.now i ≡ Some update) }
     {
         match self.at(i) {
-            Some((name, aim)) => Ok(RefUpdate {
+            Some((name, staged)) => Ok(RefUpdate {
                 name: name.clone()?,
-                old: aim.old,
-                new: aim.new,
+                old: staged.old,
+                new: staged.new,
             }),
             None => unreachable!(),
         }
@@ -105,8 +105,8 @@ impl StagedRefs {
         ensures ok { OnOk result (self.new ≡ with_set self.old name old new) }
         ensures err { OnErr result (self.new ≡ self.old) }
     {
-        let aim = with_new(self.table.get(&name).copied(), old, new);
-        match self.table.insert(name, aim) {
+        let staged = with_new(self.table.get(&name).copied(), old, new);
+        match self.table.insert(name, staged) {
             Ok(_) => Ok(()),
             Err(_) => Err(NoMemory),
         }
@@ -118,7 +118,7 @@ impl StagedRefs {
         ensures ok { OnOk result (self.new ≡ with_check self.old name old) }
         ensures err { OnErr result (self.new ≡ self.old) }
     {
-        match self.table.insert(name, Aim { old, new: None }) {
+        match self.table.insert(name, StagedRef { old, new: None }) {
             Ok(_) => Ok(()),
             Err(_) => Err(NoMemory),
         }
@@ -126,11 +126,11 @@ impl StagedRefs {
 }
 
 /// The first old value, or else this one, and the new value.
-fn with_new(first: Option<Aim>, old: Name, new: Name) -> Aim
+fn with_new(first: Option<StagedRef>, old: Name, new: Name) -> StagedRef
     ensures { result ≡ with_new first old new }
 {
-    Aim {
-        old: first.map_or(old, |aim| aim.old),
+    StagedRef {
+        old: first.map_or(old, |staged| staged.old),
         new: Some(new),
     }
 }

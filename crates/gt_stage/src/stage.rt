@@ -138,7 +138,7 @@ impl Stage {
         ensures { result ≡ own_ref self.now.staged.refs name.now }
     {
         match self.refs.get(name) {
-            Some(aim) => aim.new,
+            Some(staged) => staged.new,
             None => None,
         }
     }
@@ -177,7 +177,7 @@ impl Stage {
         ensures { option_map (λ p. record { name = p.0.now; old = p.1; new = p.2 }) result ≡ slice_get self.now.staged.refs i }
     {
         match self.refs.at(i) {
-            Some((name, aim)) => Some((name, aim.old, aim.new)),
+            Some((name, staged)) => Some((name, staged.old, staged.new)),
             None => None,
         }
     }

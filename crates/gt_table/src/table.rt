@@ -6,7 +6,7 @@ ghost use Rattle.gt_model.specs.Machine.{references};
 ghost use Rattle.gt_model.specs.Verdicts.{clash, refs_in};
 ghost use Rattle.gt_table.specs.Table.{HasRoomFor, content, content_at, place_at};
 
-use gt_list::{NoMemory, Roomy};
+use gt_list::{NoMemory, ReservedVec};
 use gt_model::{Entry, RefList, RefsAt};
 use gt_name::{Name, Names2, RefName, RepoPath};
 use gt_objset::{ObjSet, Place, tables_follow_their_logs};
@@ -21,7 +21,7 @@ use std::marker::Model;
 /// what the repository has.
 #[derive(Drop)]
 pub struct Table {
-    entries: Roomy<Entry>,
+    entries: ReservedVec<Entry>,
     refs: RefTable,
     objects: ObjSet,
 }
@@ -54,7 +54,7 @@ impl Table {
             Err(error) => return Err(error),
         };
         Ok(Table {
-            entries: Roomy::new(alloc),
+            entries: ReservedVec::new(alloc),
             refs,
             objects,
         })

@@ -3,13 +3,13 @@ use Rattle.gt_model.specs.Machine.{Pin}
 use Rattle.gt_pins.specs.Live.{ReadBefore}
 use Rattle.gt_pins.proofs.Positions.{reads_released}
 use Rattle.gt_model.specs.declared.event.Event.TheVariants.{Abort}
-use Rattle.gt_act.specs.Book.{state_of}
+use Rattle.gt_act.specs.PartitionState.{state_of}
 use Rattle.gt_act.proofs.Stepping.{at_once, released_state}
 use Rattle.gt_act.proofs.aborting.abort.Goals as goal
 
-pub invariant_of-book : goal.invariant_of-book
-invariant_of-book c = record { reads = subst (λ (pins : List Pin). ReadBefore (length c.args.book.now.journal.log) pins) (sym c.release.ensures) (reads_released (length c.args.book.now.journal.log) c.args.book.now.live c.args.pin.now c.args.book.now.reads) }
+pub invariant_of-state : goal.invariant_of-state
+invariant_of-state c = record { reads = subst (λ (pins : List Pin). ReadBefore (length c.args.state.now.journal.log) pins) (sym c.release.ensures) (reads_released (length c.args.state.now.journal.log) c.args.state.now.live c.args.pin.now c.args.state.now.reads) }
 
 pub returns-clause-step : goal.returns-clause-step
 returns-clause-step c =
-    at_once c.args.limits.now (Abort c.args.pin.now) (state_of c.args.book.now) _ _ c.requires refl refl (inl (refl, released_state c.args.book.now.journal c.args.book.now.live _ _ c.release.ensures))
+    at_once c.args.limits.now (Abort c.args.pin.now) (state_of c.args.state.now) _ _ c.requires refl refl (inl (refl, released_state c.args.state.now.journal c.args.state.now.live _ _ c.release.ensures))

@@ -1,19 +1,19 @@
 use Rattle.std.proofs.Common.{refl, length}
 use Rattle.gt_model.specs.declared.event.Event.TheVariants.{Begin}
 use Rattle.gt_pins.proofs.Positions.{reads_later}
-use Rattle.gt_act.specs.Book.{state_of}
+use Rattle.gt_act.specs.PartitionState.{state_of}
 use Rattle.gt_act.proofs.Stepping.{then_acts, settling_moves, settling_pins}
 use Rattle.gt_act.proofs.beginning.begin.Goals as goal
 
-pub invariant_of-book : goal.invariant_of-book
-invariant_of-book g c = record { reads = reads_later (length c.args.book.now.journal.log) _ c.args.book.now.live c.settle.ensures.longer c.args.book.now.reads }
+pub invariant_of-state : goal.invariant_of-state
+invariant_of-state g c = record { reads = reads_later (length c.args.state.now.journal.log) _ c.args.state.now.live c.settle.ensures.longer c.args.state.now.reads }
 
 pub returns-in-Err-clause-moves : goal.returns-in-Err-clause-moves
-returns-in-Err-clause-moves g c told = settling_moves c.args.limits.now (state_of c.args.book.now) _ _ _ (c.settle.ensures.moves told c.args.limits.now _ _)
+returns-in-Err-clause-moves g c told = settling_moves c.args.limits.now (state_of c.args.state.now) _ _ _ (c.settle.ensures.moves told c.args.limits.now _ _)
 
 pub returns-clause-step : goal.returns-clause-step
-returns-clause-step g c = then_acts c.args.limits.now (Begin c.args.path.now c.args.seen) (state_of c.args.book.now) _ _ _ refl refl refl (c.in_default.ensures.settles c.args.book.now.live) c.begin_settled.ensures.acts
+returns-clause-step g c = then_acts c.args.limits.now (Begin c.args.path.now c.args.seen) (state_of c.args.state.now) _ _ _ refl refl refl (c.in_default.ensures.settles c.args.state.now.live) c.begin_settled.ensures.acts
 
 pub returns-clause-moves : goal.returns-clause-moves
 returns-clause-moves g c told =
-    settling_pins c.args.limits.now (state_of c.args.book.now) _ c.begin_settled.new.book.journal c.args.book.now.live c.begin_settled.new.book.live _ _ c.begin_settled.ensures.log c.begin_settled.ensures.doubt (c.settle.ensures.moves told c.args.limits.now c.args.book.now.live c.args.book.now.live)
+    settling_pins c.args.limits.now (state_of c.args.state.now) _ c.begin_settled.new.state.journal c.args.state.now.live c.begin_settled.new.state.live _ _ c.begin_settled.ensures.log c.begin_settled.ensures.doubt (c.settle.ensures.moves told c.args.limits.now c.args.state.now.live c.args.state.now.live)

@@ -3,20 +3,20 @@ use Rattle.gt_model.specs.Contents.{nothing, after_all}
 use Rattle.gt_model.specs.Machine.{Pin, is_faulty, pin_of}
 use Rattle.gt_pins.specs.Live.{ReadBefore}
 use Rattle.gt_pins.proofs.Positions.{reads_released}
-use Rattle.gt_act.specs.Book.{state_of}
+use Rattle.gt_act.specs.PartitionState.{state_of}
 use Rattle.gt_act.proofs.Causes.{sure_cause}
 use Rattle.gt_act.proofs.Commits.{verdict_ends}
 use Rattle.gt_act.proofs.Stepping.{fewer_by}
 use Rattle.gt_act.proofs.committing.commit_settled.Goals as goal
 
-pub invariant_of-book : goal.invariant_of-book
-invariant_of-book g c = record { reads = subst (λ (pins : List Pin). ReadBefore (length c.args.book.now.journal.log) pins) (sym c.release.ensures) (reads_released (length c.args.book.now.journal.log) c.args.book.now.live c.args.pin.now c.args.book.now.reads) }
+pub invariant_of-state : goal.invariant_of-state
+invariant_of-state g c = record { reads = subst (λ (pins : List Pin). ReadBefore (length c.args.state.now.journal.log) pins) (sym c.release.ensures) (reads_released (length c.args.state.now.journal.log) c.args.state.now.live c.args.pin.now c.args.state.now.reads) }
 
 pub returns-in-Refused-clause-fewer : goal.returns-in-Refused-clause-fewer
-returns-in-Refused-clause-fewer g c = fewer_by c.args.book.now.live _ c.args.pin.now c.release.ensures
+returns-in-Refused-clause-fewer g c = fewer_by c.args.state.now.live _ c.args.pin.now c.release.ensures
 
 pub returns-in-Refused-clause-cause : goal.returns-in-Refused-clause-cause
 returns-in-Refused-clause-cause g c =
     let said = c.in-Refused.ensures in
-    let sure : is_faulty c.refused.result.answer ≡ false = ap is_faulty c.refused.ensures.answer ∙ (verdict_ends (after_all nothing c.args.book.now.journal.log) (pin_of (state_of c.args.book.now) c.args.pin.now).path c.args.stage.now.staged c.in-Refused.answer said.failed).1 in
+    let sure : is_faulty c.refused.result.answer ≡ false = ap is_faulty c.refused.ensures.answer ∙ (verdict_ends (after_all nothing c.args.state.now.journal.log) (pin_of (state_of c.args.state.now) c.args.pin.now).path c.args.stage.now.staged c.in-Refused.answer said.failed).1 in
     sure_cause _ c.refused.result.answer sure

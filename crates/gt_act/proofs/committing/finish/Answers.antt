@@ -4,5 +4,5 @@ use Rattle.gt_pins.specs.Live.{ReadBefore}
 use Rattle.gt_pins.proofs.Positions.{reads_released}
 use Rattle.gt_act.proofs.committing.finish.Goals as goal
 
-pub invariant_of-book : goal.invariant_of-book
-invariant_of-book c = record { reads = subst (λ (pins : List Pin). ReadBefore (length c.args.book.now.journal.log) pins) (sym c.release.ensures) (reads_released (length c.args.book.now.journal.log) c.args.book.now.live c.args.pin.now c.args.book.now.reads) }
+pub invariant_of-state : goal.invariant_of-state
+invariant_of-state c = record { reads = subst (λ (pins : List Pin). ReadBefore (length c.args.state.now.journal.log) pins) (sym c.release.ensures) (reads_released (length c.args.state.now.journal.log) c.args.state.now.live c.args.pin.now c.args.state.now.reads) }

@@ -3,20 +3,20 @@ use Rattle.gt_pins.proofs.Positions.{reads_later}
 use Rattle.gt_act.proofs.Stepping.{deletion_acts}
 use Rattle.gt_act.proofs.deleting.delete_unused.Goals as goal
 
-pub invariant_of-book : goal.invariant_of-book
-invariant_of-book g c = record { reads = reads_later (length c.args.book.now.journal.log) _ c.args.book.now.live c.add.ensures.longer c.args.book.now.reads }
+pub invariant_of-state : goal.invariant_of-state
+invariant_of-state g c = record { reads = reads_later (length c.args.state.now.journal.log) _ c.args.state.now.live c.add.ensures.longer c.args.state.now.reads }
 
 pub returns-in-Ok-add-clause-moves : goal.returns-in-Ok-add-clause-moves
-returns-in-Ok-add-clause-moves g c told = c.add.ensures.moves told c.args.book.now.live c.args.book.now.live
+returns-in-Ok-add-clause-moves g c told = c.add.ensures.moves told c.args.state.now.live c.args.state.now.live
 
 pub returns-in-Err-Untouched-clause-moves : goal.returns-in-Err-Untouched-clause-moves
-returns-in-Err-Untouched-clause-moves g c told = c.add.ensures.moves told c.args.book.now.live c.args.book.now.live
+returns-in-Err-Untouched-clause-moves g c told = c.add.ensures.moves told c.args.state.now.live c.args.state.now.live
 
 pub returns-in-Err-Unsure-clause-moves : goal.returns-in-Err-Unsure-clause-moves
-returns-in-Err-Unsure-clause-moves g c told = c.add.ensures.moves told c.args.book.now.live c.args.book.now.live
+returns-in-Err-Unsure-clause-moves g c told = c.add.ensures.moves told c.args.state.now.live c.args.state.now.live
 
 pub returns-in-Err-Memory-clause-moves : goal.returns-in-Err-Memory-clause-moves
-returns-in-Err-Memory-clause-moves g c told = c.add.ensures.moves told c.args.book.now.live c.args.book.now.live
+returns-in-Err-Memory-clause-moves g c told = c.add.ensures.moves told c.args.state.now.live c.args.state.now.live
 
 pub returns-in-Ok-add-clause-acts : goal.returns-in-Ok-add-clause-acts
-returns-in-Ok-add-clause-acts g c = deletion_acts c.args.limits.now c.args.book.now.journal _ c.args.book.now.live _ _ _ (cc c.in-Ok.ensures.cases) c.requires.there c.requires.unused (search rules) (search rules) (c.in-Ok-add.ensures.added c.args.book.now.live c.args.book.now.live)
+returns-in-Ok-add-clause-acts g c = deletion_acts c.args.limits.now c.args.state.now.journal _ c.args.state.now.live _ _ _ (cc c.in-Ok.ensures.cases) c.requires.there c.requires.unused (search rules) (search rules) (c.in-Ok-add.ensures.added c.args.state.now.live c.args.state.now.live)

@@ -1,6 +1,6 @@
 use Rattle.std.proofs.Common.{◌≡◌, length, nat_eq}
 use Rattle.gt_model.specs.Machine.{Pin, pin_of as pin_in}
-use Rattle.gt_act.specs.Book.{state_of}
+use Rattle.gt_act.specs.PartitionState.{state_of}
 use Rattle.gt_pins.specs.Live.{pin_of}
 use Rattle.gt_pins.proofs.Positions.{reads_found}
 use Rattle.gt_act.proofs.Stepping.{found_pin}
@@ -9,11 +9,11 @@ use Rattle.gt_act.proofs.reading.get_ref.Goals as goal
 
 pub value_at-requires : goal.value_at-requires
 value_at-requires c =
-    rw c.table.ensures (reads_found (length c.args.book.now.journal.log) (λ (p : Pin). nat_eq p.number c.args.pin.now) c.args.book.now.live (pin_of c.get-live.result.now) c.args.book.now.reads c.get-live.ensures)
+    rw c.table.ensures (reads_found (length c.args.state.now.journal.log) (λ (p : Pin). nat_eq p.number c.args.pin.now) c.args.state.now.live (pin_of c.get-live.result.now) c.args.state.now.reads c.get-live.ensures)
 
 pub returns-clause-step : goal.returns-clause-step
 returns-clause-step c =
-    let s = state_of c.args.book.now in
+    let s = state_of c.args.state.now in
     let p = pin_of c.get-live.result.now in
-    let here : pin_in s c.args.pin.now ≡ p = found_pin c.args.book.now.journal c.args.book.now.live c.args.pin.now p c.get-live.ensures in
-    ref_read c.args.limits.now c.args.book.now.journal c.args.book.now.live c.args.pin.now c.requires p here c.args.name.now c.value_at.result (rw c.table.ensures at c.value_at.ensures)
+    let here : pin_in s c.args.pin.now ≡ p = found_pin c.args.state.now.journal c.args.state.now.live c.args.pin.now p c.get-live.ensures in
+    ref_read c.args.limits.now c.args.state.now.journal c.args.state.now.live c.args.pin.now c.requires p here c.args.name.now c.value_at.result (rw c.table.ensures at c.value_at.ensures)

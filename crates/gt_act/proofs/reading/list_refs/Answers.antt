@@ -1,6 +1,6 @@
 use Rattle.std.proofs.Common.{◌≡◌, length, nat_eq}
 use Rattle.gt_model.specs.Machine.{Pin, pin_of as pin_in}
-use Rattle.gt_act.specs.Book.{state_of}
+use Rattle.gt_act.specs.PartitionState.{state_of}
 use Rattle.gt_pins.specs.Live.{pin_of}
 use Rattle.gt_pins.proofs.Positions.{reads_found}
 use Rattle.gt_act.proofs.Stepping.{found_pin}
@@ -9,11 +9,11 @@ use Rattle.gt_act.proofs.reading.list_refs.Goals as goal
 
 pub list_at-requires : goal.list_at-requires
 list_at-requires c =
-    rw c.table.ensures (reads_found (length c.args.book.now.journal.log) (λ (p : Pin). nat_eq p.number c.args.pin.now) c.args.book.now.live (pin_of c.get-live.result.now) c.args.book.now.reads c.get-live.ensures)
+    rw c.table.ensures (reads_found (length c.args.state.now.journal.log) (λ (p : Pin). nat_eq p.number c.args.pin.now) c.args.state.now.live (pin_of c.get-live.result.now) c.args.state.now.reads c.get-live.ensures)
 
 pub returns-in-Ok-clause-step : goal.returns-in-Ok-clause-step
 returns-in-Ok-clause-step c =
-    let s = state_of c.args.book.now in
+    let s = state_of c.args.state.now in
     let p = pin_of c.get-live.result.now in
-    let here : pin_in s c.args.pin.now ≡ p = found_pin c.args.book.now.journal c.args.book.now.live c.args.pin.now p c.get-live.ensures in
-    refs_read c.args.limits.now c.args.book.now.journal c.args.book.now.live c.args.pin.now c.requires p here c.args.prefix.now c.in-Ok.list (rw c.table.ensures at c.in-Ok.ensures)
+    let here : pin_in s c.args.pin.now ≡ p = found_pin c.args.state.now.journal c.args.state.now.live c.args.pin.now p c.get-live.ensures in
+    refs_read c.args.limits.now c.args.state.now.journal c.args.state.now.live c.args.pin.now c.requires p here c.args.prefix.now c.in-Ok.list (rw c.table.ensures at c.in-Ok.ensures)

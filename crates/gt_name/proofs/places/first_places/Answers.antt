@@ -1,5 +1,5 @@
 use Rattle.std.proofs.Common.{codes}
-use Rattle.gt_name.specs.declared.component.Fault.TheVariants.{Empty, BeginsWithDot, EndsWithLock}
+use Rattle.gt_name.specs.declared.component.ComponentFault.TheVariants.{Empty, BeginsWithDot, EndsWithLock}
 use Rattle.gt_name.specs.References.{is_forbidden}
 use Rattle.gt_name.proofs.PlacesLemmas.{byte_noted, text_noted, component_noted}
 use Rattle.gt_name.proofs.places.first_places.Goals as goal

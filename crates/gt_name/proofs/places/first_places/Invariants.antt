@@ -1,6 +1,6 @@
 -- What was found so far, or else what is left to find, is what the whole text has.
 use Rattle.std.proofs.Common.{◌≡◌, codes, drop, position}
-use Rattle.gt_name.specs.declared.component.Fault.TheVariants.{Empty, BeginsWithDot, EndsWithLock}
+use Rattle.gt_name.specs.declared.component.ComponentFault.TheVariants.{Empty, BeginsWithDot, EndsWithLock}
 use Rattle.gt_name.specs.Broken.{or_else}
 use Rattle.gt_name.specs.Components.{faulty_from}
 use Rattle.gt_name.specs.References.{is_forbidden, first_text, ref_byte, ref_empty, ref_dot, ref_dots, ref_brace, ref_lock}

@@ -15,9 +15,9 @@ abort-ended-requires g c = ap (λ (p : Shown _). is_live p.live c.args.pin) c.se
 
 pub invariant_of-self : goal.invariant_of-self
 invariant_of-self g c =
-    let pins = c.self.inside.book.live in
+    let pins = c.self.inside.state.live in
     let live : is_live pins c.args.pin ≡ true = ap (λ (p : Shown _). is_live p.live c.args.pin) c.self.view_is ∙ c.requires in
-    let fewer : length c.abort-ended.new.book.live ≡ length (released pins c.args.pin) = ap (λ (l : List Pin). length l) c.abort-ended.ensures.live in
+    let fewer : length c.abort-ended.new.state.live ≡ length (released pins c.args.pin) = ap (λ (l : List Pin). length l) c.abort-ended.ensures.live in
     (c.self.invariant.0, c.self.invariant.1, omega (arith, fewer, released_fewer pins c.args.pin live, c.self.invariant.2, c.note.ensures.room))
 
 pub returns-clause-called : goal.returns-clause-called

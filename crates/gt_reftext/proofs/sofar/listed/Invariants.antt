@@ -1,6 +1,0 @@
-use Rattle.std.proofs.Common.{◌≡◌, map}
-use Rattle.gt_reftext.specs.Packed.{to_ref}
-use Rattle.gt_reftext.proofs.sofar.listed.Given as goal
-
-abbrev pub invariant-refs : goal.invariant-refs
-invariant-refs l = l.list ≡ map to_ref l.yielded
