@@ -1,6 +1,5 @@
 -- How a commit leaves the live transactions.
-use Rattle.std.proofs.Common.{◌≡◌, inl, inr, ℕ, Bool, true, false, cond, not, List, [], ◌∷◌, Option, Some, None, Result, Ok, Err, refl, sym, ◌∙◌, ap, subst, ◌+◌, find, map}
-use Rattle.std.specs.Option.{option_or, option_map}
+use Rattle.std.proofs.Common.{◌≡◌, inl, inr, ℕ, Bool, true, false, cond, List, Some, None, Result, Ok, Err, refl, sym, ◌∙◌, ap, subst, ◌+◌}
 use Rattle.gt_model.specs.declared.added.Added.{Added}
 use Rattle.gt_model.specs.declared.change.Change.TheVariants.{Write}
 use Rattle.gt_model.specs.declared.done.Done.{Done}
@@ -8,16 +7,16 @@ use Rattle.gt_model.specs.declared.done.Done.TheVariants.{Finished, Committed}
 use Rattle.gt_model.specs.declared.entry.Entry.{Entry}
 use Rattle.gt_model.specs.declared.event.Event.TheVariants.{Commit}
 use Rattle.gt_model.specs.declared.limits.Limits.{Limits}
-use Rattle.gt_model.specs.declared.needer.Needer.TheVariants.{Object}
-use Rattle.gt_object.specs.Whole.{deps}
 use Rattle.gt_model.specs.declared.refusal.Refusal.{Refusal}
-use Rattle.gt_model.specs.declared.refusal.Refusal.TheVariants.{RepositoryGone, DirectoryConflict, MissingObject, LogFull}
+use Rattle.gt_model.specs.declared.refusal.Refusal.TheVariants.{LogFull}
 use Rattle.gt_model.specs.declared.update.RefUpdate.{RefUpdate}
-use Rattle.gt_model.specs.Contents.{Content, and_then, has_repo, finds_old, with_refs}
-use Rattle.gt_model.specs.Verdicts.{Staged, Ready, verdict, failed, first_some, conflict, directory, missing_value, missing_dep, target, clash_in, refs_in, is_present, added_records, needed_names}
+use Rattle.gt_model.specs.Contents.{Content}
+use Rattle.gt_model.specs.Verdicts.{Staged, Ready, verdict, added_records}
 use Rattle.gt_model.specs.Machine.{Pin, State, content, released, is_live, is_empty, settles, pin_of, is_full, refuses, answers, adds, committed, effect, Ends, Fails, Acts, SettledEntry, Step, with_pins, next_entry, front, is_fault}
-use Rattle.gt_act.specs.Live.{ends, Ended}
+use Rattle.gt_pins.specs.Ends.{ends}
 use Rattle.gt_pins.proofs.Numbers.{released_gone}
+use Rattle.gt_write.proofs.Refusals.{verdict_has}
+use Rattle.gt_act.specs.Live.{Ended}
 
 -- ---- a check that fails ends the transaction
 
@@ -25,57 +24,8 @@ use Rattle.gt_pins.proofs.Numbers.{released_gone}
 abbrev IsEnd : Refusal → Type 0
 IsEnd refusal = (ends (Err refusal) ≡ true) × (is_fault refusal ≡ false)
 
-abbrev EndsIt : Option Refusal → Type 0
-EndsIt None = Unit {0}
-EndsIt (Some refusal) = IsEnd refusal
-
-ends_first : {A : Type 0} (f : A → Option Refusal) (xs : List A) → ((x : A) → EndsIt (f x)) → EndsIt (first_some f xs)
-ends_first f [] each = tt
-ends_first f (x ∷ xs) each = by (f x) (each x) (ends_first f xs each)
-  where
-    by : (o : Option Refusal) → EndsIt o → EndsIt (first_some f xs) → EndsIt (option_or o (first_some f xs))
-    by None here rest = rest
-    by (Some refusal) here rest = here
-
-ends_or : (a b : Option Refusal) → EndsIt a → EndsIt b → EndsIt (option_or a b)
-ends_or None b one two = two
-ends_or (Some refusal) b one two = one
-
-ends_unless : (b : Bool) (refusal : Refusal) → IsEnd refusal → EndsIt (cond b None (Some refusal))
-ends_unless true refusal is = tt
-ends_unless false refusal is = is
-
-ends_map : {A : Type 0} (f : A → Refusal) (o : Option A) → ((a : A) → IsEnd (f a)) → EndsIt (option_map f o)
-ends_map f None each = tt
-ends_map f (Some a) each = each a
-
-ends_then : {A : Type 0} (o : Option A) (f : A → Option Refusal) → ((a : A) → EndsIt (f a)) → EndsIt (and_then o f)
-ends_then None f each = tt
-ends_then (Some a) f each = each a
-
-failed_ends : (c : Content) (path : List ℕ) (s : Staged) → EndsIt (failed c path s)
-failed_ends c path s = by (has_repo c path)
-  where
-    by : (b : Bool) → EndsIt (cond b (option_or (conflict c path s) (option_or (directory c path s) (option_or (missing_value c path s) (missing_dep c path s)))) (Some RepositoryGone))
-    by false = (refl, refl)
-    by true =
-        ends_or (conflict c path s) _ (ends_first _ s.refs (λ u. ends_unless (finds_old c path u) _ (refl, refl)))
-        (ends_or (directory c path s) _ (ends_first _ s.refs (λ u. ends_then (target u) _ (λ new. ends_map (DirectoryConflict u.name) (clash_in (with_refs (refs_in c path) s.refs) u.name) (λ other. (refl, refl)))))
-        (ends_or (missing_value c path s) _ (ends_first _ s.refs (λ u. ends_then (target u) _ (λ new. ends_unless (is_present c path s new) _ (refl, refl))))
-        (ends_first _ (added_records c path s) (λ a. ends_map (λ dep. MissingObject dep (Object a.name)) (find (λ dep. not (is_present c path s dep)) (deps a.whole)) (λ dep. (refl, refl))))))
-
-abbrev verdict_by : Content → List ℕ → Staged → Option Refusal → Result Ready Refusal
-verdict_by c path s o = elim o [
-  | Some refusal ↦ Err refusal
-  | None ↦ Ok (record { refs = s.refs; needed = needed_names c path s; added = map (λ a. a.name) (added_records c path s) })
-]
-
 pub verdict_ends : (c : Content) (path : List ℕ) (s : Staged) (refusal : Refusal) → verdict c path s ≡ Err refusal → IsEnd refusal
-verdict_ends c path s refusal is = by (failed c path s) (failed_ends c path s) is
-  where
-    by : (o : Option Refusal) → EndsIt o → verdict_by c path s o ≡ Err refusal → IsEnd refusal
-    by None here e = absurd (cc (e))
-    by (Some r) here e = let same : r ≡ refusal = cc (e) in subst IsEnd same here
+verdict_ends c path s refusal is = verdict_has IsEnd (refl, refl) (λ name expected actual. (refl, refl)) (λ name existing. (refl, refl)) (λ name needer. (refl, refl)) c path s refusal is
 
 -- ---- the transactions after a commit
 

@@ -1,5 +1,5 @@
 -- The parts of a step: what is in doubt is settled, and then the event acts.
-use Rattle.std.proofs.Common.{◌≡◌, inl, inr, ℕ, ◌+◌, ◌≤◌, Bool, true, false, cond, not, nat_le, nat_eq, find, is_some, ◌&&◌, IsTrue, List, [], ◌∷◌, length, Option, Some, None, Result, Ok, Err, refl, sym, ◌∙◌, ap, subst, arith}
+use Rattle.std.proofs.Common.{◌≡◌, ◌⊎◌, inl, inr, ℕ, ◌+◌, ◌≤◌, Bool, true, false, cond, not, nat_eq, find, is_some, ◌&&◌, IsTrue, List, [], ◌∷◌, length, Option, Some, None, Result, Ok, Err, refl, sym, ◌∙◌, ap, subst, arith}
 use Rattle.std.specs.Option.{option_map, unwrap_or}
 use Rattle.gt_disk.specs.Files.{States, View, now, Quiet}
 use Rattle.gt_model.specs.declared.change.Change.{Change}
@@ -14,15 +14,19 @@ use Rattle.gt_model.specs.declared.event.Event.{Event}
 use Rattle.gt_model.specs.declared.event.Event.TheVariants.{Create, Delete, Commit}
 use Rattle.gt_model.specs.declared.limits.Limits.{Limits}
 use Rattle.gt_model.specs.declared.refusal.Refusal.{Refusal}
-use Rattle.gt_model.specs.declared.refusal.Refusal.TheVariants.{Memory, DeviceFault, RepositoryExists, NoRepository, PoolInUse, LogFull}
-use Rattle.gt_model.specs.Machine.{State, Pin, reading, pin_of, released, is_live_as, is_transaction, is_empty, committed, answers, front, content, is_full, next_entry, with_entry, with_pins, refuses, adds, unless, is_asked, settles, settles_turn, after_fault, RunsOut, Ends, Acts, SettledEntry, SettledTurn, Step}
-use Rattle.gt_model.specs.Contents.{nothing, after_all, has_repo, least_member}
+use Rattle.gt_model.specs.declared.refusal.Refusal.TheVariants.{Memory, DeviceFault, RepositoryExists, NoRepository, PoolInUse, LogFull, Unsure}
+use Rattle.gt_model.specs.Machine.{State, Pin, Effect, Fails, effect, reading, pin_of, released, is_live_as, is_transaction, is_empty, committed, answers, front, content, is_full, next_entry, with_entry, with_pins, refuses, adds, unless, is_asked, settles, settles_turn, after_fault, RunsOut, Ends, Acts, SettledEntry, SettledTurn, Step}
+use Rattle.gt_model.specs.Contents.{has_repo, least_member}
 use Rattle.gt_history.proofs.Moves as moves
 use Rattle.gt_base.specs.Ledger.{Ledger, StoredBy, Stored, state_of}
 use Rattle.gt_base.specs.Recovery.{recover, Keeps, counters}
 use Rattle.gt_base.specs.Histories.{Moves, Settling}
 use Rattle.gt_base.proofs.Images.{stored_of, by_stored}
+use Rattle.gt_act.specs.declared.ended.Ended.{Ended}
+use Rattle.gt_act.specs.declared.ended.Ended.TheVariants as ended
+use Rattle.gt_act.specs.Adding.{AddsChange}
 use Rattle.gt_act.specs.Causes.{settling_calls}
+use Rattle.gt_act.specs.Ended.{answer_of}
 
 -- the position of the last entry
 pub front_is : (l : Ledger) (pins : List Pin) → front (state_of l pins) ≡ length l.log
@@ -82,44 +86,43 @@ module _ (limits : Limits) where
 
 -- ---- entries
 
--- where no refusal stands, an entry is added
-chosen : (s new : State) (one two : Bool) (r q : Refusal) (e : Entry) (done : Done) (pins : List Pin) (answer : Result Done Refusal) → one ≡ false → two ≡ false → answer ≡ Ok done → new ≡ with_pins (with_entry s e) pins
-    → Ends (cond one (refuses r s.pins) (cond two (refuses q s.pins) (adds e done pins))) s answer new
-chosen s new true two r q e done pins answer never other said is = absurd (cc never)
-chosen s new false true r q e done pins answer one never said is = absurd (cc never)
-chosen s new false false r q e done pins answer one other said is = inl (said, is)
+-- what is answered where the addition of a change ends so
+abbrev pub told_of : (ℕ → Done) → Result ℕ Ended → Result Done Refusal
+told_of done (Ok position) = Ok (done position)
+told_of done (Err ended) = answer_of ended
 
--- the entry that was added is the next one
-entry_at : (l m : Ledger) (pins after : List Pin) (position : ℕ) (copy path : List ℕ) (change : Change) → position ≡ length l.log + 1 → copy ≡ path
-    → state_of m after ≡ with_pins (with_entry (state_of l pins) (record { position = position; path = copy; change = change })) after → state_of m after ≡ with_pins (with_entry (state_of l pins) (next_entry (state_of l pins) path change)) after
-entry_at l m pins after position copy path change at copied is =
-    let here : position ≡ front (state_of l pins) + 1 = omega (arith, at) in
-    is ∙ (λ i. with_pins (with_entry (state_of l pins) (record { position = here i; path = copied i; change = change })) after)
+-- An event that comes to the addition of a change acts by it.
+module _ (limits : Limits) (s new : State) (event : Event) (path : List ℕ) (change : Change) (done : ℕ → Done) (still : after_fault s event ≡ s) (out : RunsOut event s s) where
+  abbrev addition : Bool → Effect
+  addition full = cond full (refuses LogFull s.pins) (adds (next_entry s path change) (done (front s + 1)) s.pins)
 
-not_full : (limits : Limits) (l : Ledger) (pins : List Pin) → nat_le limits.positions (length l.log) ≡ false → is_full limits (state_of l pins) ≡ false
-not_full limits l pins room = ap (nat_le limits.positions) (front_is l pins) ∙ room
+  abbrev ActsBy : Effect → Result Done Refusal → Type 0
+  ActsBy e answer = Ends e s answer new ⊎ ((answer ≡ Err DeviceFault) × Fails event e s new) ⊎ ((answer ≡ Err Memory) × RunsOut event s new)
 
-pub creation_acts : (limits : Limits) (l m : Ledger) (pins : List Pin) (position : ℕ) (copy path : List ℕ) (pool : Bool) → copy ≡ path → has_repo (after_all nothing l.log) path ≡ false → nat_le limits.positions (length l.log) ≡ false → position ≡ length l.log + 1
-    → state_of m pins ≡ with_pins (with_entry (state_of l pins) (record { position = position; path = copy; change = CreateChange pool })) pins → Acts limits (state_of l pins) (Create path pool) (Ok (Created position pool)) (state_of m pins)
-creation_acts limits l m pins position copy path pool copied free room at is =
-    let s : State = state_of l pins in
-    let here : position ≡ front s + 1 = omega (arith, at) in
-    inl (chosen s (state_of m pins) (has_repo (content s) path) (is_full limits s) RepositoryExists LogFull (next_entry s path (CreateChange pool)) (Created (front s + 1) pool) pins (Ok (Created position pool)) free (not_full limits l pins room)
-    (ap (λ (n : ℕ). Ok (Created n pool)) here) (entry_at l m pins pins position copy path (CreateChange pool) at copied is))
+  -- whether the log is full is what the addition says
+  added_by : (added : Result ℕ Ended) (full : Bool) → is_full limits s ≡ full → AddsChange limits s path change added new → ActsBy (addition full) (told_of done added)
+  added_by (Err ended.LogFull) true at (full, same) = inl (refl, same)
+  added_by (Err ended.LogFull) false at (full, same) = absurd (cc (at, full))
+  added_by (Ok position) true at (room, rest) = absurd (cc (at, room))
+  added_by (Ok position) false at (room, (here, is)) = inl (inl (ap (λ (n : ℕ). Ok (done n)) here, is))
+  added_by (Err (ended.Unsure position)) true at (room, rest) = absurd (cc (at, room))
+  added_by (Err (ended.Unsure position)) false at (room, (here, is)) = inl (inr (ap (λ (n : ℕ). Err (Unsure n)) here, is))
+  added_by (Err ended.DeviceFault) true at (room, rest) = absurd (cc (at, room))
+  added_by (Err ended.DeviceFault) false at (room, same) = inr (inl (refl, same ∙ sym still))
+  added_by (Err ended.Memory) true at (room, rest) = absurd (cc (at, room))
+  added_by (Err ended.Memory) false at (room, same) = inr (inr (refl, subst (RunsOut event s) (sym same) out))
+  added_by (Err other) full at (room, never) = absurd never
 
-pub deletion_acts : (limits : Limits) (l m : Ledger) (pins : List Pin) (position : ℕ) (copy path : List ℕ) → copy ≡ path → has_repo (after_all nothing l.log) path ≡ true → least_member (after_all nothing l.log) path ≡ None → nat_le limits.positions (length l.log) ≡ false → position ≡ length l.log + 1
-    → state_of m pins ≡ with_pins (with_entry (state_of l pins) (record { position = position; path = copy; change = DeleteChange })) pins → Acts limits (state_of l pins) (Delete path) (Ok (Deleted position)) (state_of m pins)
-deletion_acts limits l m pins position copy path copied there unused room at is =
-    let s : State = state_of l pins in
-    let here : position ≡ front s + 1 = omega (arith, at) in
-    inl (by (least_member (content s) path) unused here)
-  where
-    by : (o : Option (List ℕ)) → o ≡ None → position ≡ front (state_of l pins) + 1
-        → Ends (cond (not (has_repo (content (state_of l pins)) path)) (refuses NoRepository pins) (unless (option_map PoolInUse o) pins (cond (is_full limits (state_of l pins)) (refuses LogFull pins) (adds (next_entry (state_of l pins) path DeleteChange) (Deleted (front (state_of l pins) + 1)) pins)))) (state_of l pins) (Ok (Deleted position)) (state_of m pins)
-    by (Some member) never here = absurd (cc never)
-    by None none here =
-        chosen (state_of l pins) (state_of m pins) (not (has_repo (content (state_of l pins)) path)) (is_full limits (state_of l pins)) NoRepository LogFull (next_entry (state_of l pins) path DeleteChange) (Deleted (front (state_of l pins) + 1)) pins (Ok (Deleted position)) (ap not there) (not_full limits l pins room)
-        (ap (λ (n : ℕ). Ok (Deleted n)) here) (entry_at l m pins pins position copy path DeleteChange at copied is)
+  pub addition_acts : (added : Result ℕ Ended) → effect limits s event ≡ addition (is_full limits s) → AddsChange limits s path change added new → Acts limits s event (told_of done added) new
+  addition_acts added comes ends = subst (λ (e : Effect). ActsBy e (told_of done added)) (sym comes) (added_by added (is_full limits s) refl ends)
+
+pub creation_acts : (limits : Limits) (s new : State) (path : List ℕ) (pool : Bool) (added : Result ℕ Ended) → has_repo (content s) path ≡ false → AddsChange limits s path (CreateChange pool) added new → Acts limits s (Create path pool) (told_of (λ n. Created n pool) added) new
+creation_acts limits s new path pool added free ends =
+    addition_acts limits s new (Create path pool) path (CreateChange pool) (λ n. Created n pool) refl refl added (ap (λ (b : Bool). cond b (refuses RepositoryExists s.pins) (addition limits s new (Create path pool) path (CreateChange pool) (λ n. Created n pool) refl refl (is_full limits s))) free) ends
+
+pub deletion_acts : (limits : Limits) (s new : State) (path : List ℕ) (added : Result ℕ Ended) → has_repo (content s) path ≡ true → least_member (content s) path ≡ None → AddsChange limits s path DeleteChange added new → Acts limits s (Delete path) (told_of Deleted added) new
+deletion_acts limits s new path added there unused ends =
+    addition_acts limits s new (Delete path) path DeleteChange Deleted refl refl added (λ i. cond (not (there i)) (refuses NoRepository s.pins) (unless (option_map PoolInUse (unused i)) s.pins (addition limits s new (Delete path) path DeleteChange Deleted refl refl (is_full limits s)))) ends
 
 -- ---- what is live
 

@@ -29,7 +29,7 @@ pub record CatHappens (limits : Limits) (s : State) (pin : ℕ) (name : List ℕ
   pub like : IsLike answer told
   pub named : IsNamedSo name answer
 
--- The disk holds this at the object's place: what is answered, or no record of that name.
+-- The object has a place, of which this holds.
 abbrev pub HeldSo : Option Place → (Place → Type 0) → Type 0
 HeldSo None holds = ⊥
 HeldSo (Some place) holds = holds place
@@ -38,6 +38,7 @@ HeldSo (Some place) holds = holds place
 abbrev pub CatNamed : State → ℕ → List ℕ → Files → Type 0
 CatNamed s pin name files = HeldSo (place_at s.log (pin_of s pin).position (pin_of s pin).path name) (λ place. sha1 (piece (files place.file) place) ≡ name)
 
+-- The disk holds this at the object's place: what is answered, or no record of that name.
 abbrev pub CatGives : State → ℕ → List ℕ → Files → Result Done Refusal → Type 0
 CatGives s pin name files (Ok (Object whole)) = HeldSo (place_at s.log (pin_of s pin).position (pin_of s pin).path name) (λ place. whole ≡ piece (files place.file) place)
 CatGives s pin name files (Ok done) = Unit {0}

@@ -1,3 +1,4 @@
+pub mod Adding
 pub mod PartitionState
 pub mod Cat
 pub mod Causes

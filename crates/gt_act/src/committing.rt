@@ -1,6 +1,7 @@
-ghost use Rattle.std.specs.Prelude.{◌≡◌, ◌≤◌, ◌⊎◌, ◌+◌, length, true, false, IsTrue, None};
+ghost use Rattle.std.specs.Prelude.{◌≡◌, ◌≤◌, ◌⊎◌, ◌+◌, length, true, false, IsTrue, None, Err};
 ghost use Rattle.gt_model.specs.declared.event.Event.{Event};
 ghost use Rattle.gt_model.specs.declared.done.Done.TheVariants.{Committed};
+ghost use Rattle.gt_model.specs.declared.refusal.Refusal.{Refusal as Why};
 ghost use Rattle.gt_model.specs.Machine.{Step, Acts, Ends, adds, pin_of, is_live, is_empty, released};
 ghost use Rattle.gt_act.specs.PartitionState.{state_of};
 ghost use Rattle.gt_act.specs.Causes.{CallCause, settling_calls};
@@ -8,6 +9,7 @@ ghost use Rattle.gt_act.specs.Ended.{answer_of, IsKeptOf};
 ghost use Rattle.gt_act.specs.declared.ended.Ended.{Ended as End};
 ghost use Rattle.gt_base.specs.Histories.{Moves};
 ghost use Rattle.gt_model.specs.Contents.{nothing, after_all};
+ghost use Rattle.gt_write.specs.declared.checked.Checked.{Checked as Came};
 ghost use Rattle.gt_write.specs.Checking.{IsChecked, IsGoodWrite};
 ghost use Rattle.gt_table.specs.Built.{IsBuilt};
 
@@ -47,7 +49,8 @@ pub fn commit<D: Disk>(
     if let Err(Failed) = state.journal.settle(disk) {
         return Reply::of(Ended::DeviceFault);
     }
-    commit_settled(alloc, limits, state, disk, pin, stage)
+    let checked = check(alloc, limits, state, pin, stage);
+    carry_out(alloc, limits, state, disk, pin, stage, checked)
 }
 
 /// Ends a transaction that has staged nothing.
@@ -61,36 +64,6 @@ fn finish(state: &mut PartitionState, pin: &Pin) -> Ended
     let position = state.live.get(pin).position;
     state.live.release(pin);
     Ended::Finished { position }
-}
-
-/// Commits what is staged, where nothing is in doubt.
-fn commit_settled<D: Disk>(
-    alloc: Global,
-    limits: &Limits,
-    state: &mut PartitionState,
-    disk: &mut D,
-    pin: &Pin,
-    stage: &Stage,
-) -> Reply
-    requires settled { state.old.journal.doubt ≡ None }
-    requires live { is_live state.old.live pin.now ≡ true }
-    requires staged { is_empty stage.now.staged.refs stage.now.staged.records ≡ false }
-    ensures acts { Acts limits.now (state_of state.old) (Event.Commit pin.now stage.now.staged.refs stage.now.staged.records) result.answer (state_of state.new) }
-    ensures kept { IsKeptOf (state_of state.old) (Event.Commit pin.now stage.now.staged.refs stage.now.staged.records) result }
-    ensures fewer { length state.new.live ≤ length state.old.live }
-    ensures cause { CallCause (D.fault_count disk.old) (D.fault_count disk.new) result.answer }
-    ensures counted { D.call_count disk.new ≤ D.call_count disk.old + 4 }
-    ensures moves { IsTrue D.tells → Moves limits.now (state_of state.old) (state_of state.new) (D.view disk.old) (D.view disk.new) }
-{
-    match check(alloc, limits, state, pin, stage) {
-        Checked::Good(entry) => Reply::of(add_write(alloc, limits, state, disk, pin, entry)),
-        Checked::Refused { answer, kept } => {
-            state.live.release(pin);
-            Reply::refused(answer, kept)
-        }
-        Checked::Full => Reply::of(Ended::LogFull),
-        Checked::Memory => Reply::of(Ended::Memory),
-    }
 }
 
 /// Checks what a transaction has staged against the content at the front.
@@ -107,6 +80,41 @@ fn check(
     let live = state.live.get(pin);
     let table = state.journal.table();
     check_commit(alloc, limits, table.front(), table, &live.path, stage)
+}
+
+/// Carries out what the checks of a commit came to, where nothing is in doubt. The stage is there for the contract.
+fn carry_out<D: Disk>(
+    alloc: Global,
+    limits: &Limits,
+    state: &mut PartitionState,
+    disk: &mut D,
+    pin: &Pin,
+    stage: &Stage,
+    checked: Checked,
+) -> Reply
+    requires settled { state.old.journal.doubt ≡ None }
+    requires live { is_live state.old.live pin.now ≡ true }
+    requires staged { is_empty stage.now.staged.refs stage.now.staged.records ≡ false }
+    requires checked { IsChecked limits.now (length state.old.journal.log) (after_all nothing state.old.journal.log) (pin_of (state_of state.old) pin.now).path stage.now.staged checked }
+    ensures acts { Acts limits.now (state_of state.old) (Event.Commit pin.now stage.now.staged.refs stage.now.staged.records) result.answer (state_of state.new) }
+    ensures kept { IsKeptOf (state_of state.old) (Event.Commit pin.now stage.now.staged.refs stage.now.staged.records) result }
+    // A refusal and a full log are answered as such: no memory is wanted for that any more.
+    ensures refused { (answer kept : Why) → checked ≡ Came.Refused answer kept → result.answer ≡ Err answer }
+    ensures full { checked ≡ Came.Full → result.answer ≡ Err Why.LogFull }
+    ensures fewer { length state.new.live ≤ length state.old.live }
+    ensures cause { CallCause (D.fault_count disk.old) (D.fault_count disk.new) result.answer }
+    ensures counted { D.call_count disk.new ≤ D.call_count disk.old + 4 }
+    ensures moves { IsTrue D.tells → Moves limits.now (state_of state.old) (state_of state.new) (D.view disk.old) (D.view disk.new) }
+{
+    match checked {
+        Checked::Good(entry) => Reply::of(add_write(alloc, limits, state, disk, pin, entry)),
+        Checked::Refused { answer, kept } => {
+            state.live.release(pin);
+            Reply::refused(answer, kept)
+        }
+        Checked::Full => Reply::of(Ended::LogFull),
+        Checked::Memory => Reply::of(Ended::Memory),
+    }
 }
 
 /// Adds the entry of a good commit, and ends its transaction.

@@ -8,11 +8,11 @@ ghost use Rattle.gt_act.specs.Causes.{CallCause, settling_calls};
 ghost use Rattle.gt_act.specs.Ended.{answer_of};
 ghost use Rattle.gt_base.specs.Histories.{Moves};
 
+use crate::adding::add_change;
 use crate::ended::Ended;
 use crate::partition_state::PartitionState;
 use gt_disk::{Disk, Failed};
-use gt_log::LogError;
-use gt_model::{Change, Entry, Limits};
+use gt_model::{Change, Limits};
 use gt_name::RepoPath;
 use std::alloc::Global;
 
@@ -58,23 +58,8 @@ fn create_settled<D: Disk>(
     if state.journal.table().has_repo(path) {
         return Ended::RepositoryExists;
     }
-    let front = state.journal.table().front();
-    if limits.positions <= front {
-        return Ended::LogFull;
-    }
-    let Ok(path) = path.clone() else {
-        return Ended::Memory;
-    };
-    let position = front + 1;
-    let entry = Entry {
-        position,
-        path,
-        change: Change::Create { pool },
-    };
-    match state.journal.add(alloc, limits, disk, entry) {
-        Ok(()) => Ended::Created { position, pool },
-        Err(LogError::Untouched) => Ended::DeviceFault,
-        Err(LogError::Unsure) => Ended::Unsure { position },
-        Err(LogError::Memory) => Ended::Memory,
+    match add_change(alloc, limits, state, disk, path, Change::Create { pool }) {
+        Ok(position) => Ended::Created { position, pool },
+        Err(ended) => ended,
     }
 }

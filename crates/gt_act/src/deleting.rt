@@ -10,13 +10,13 @@ ghost use Rattle.gt_act.specs.Ended.{answer_of, IsKeptOf};
 ghost use Rattle.gt_act.specs.declared.ended.Ended.{Ended as End};
 ghost use Rattle.gt_base.specs.Histories.{Moves};
 
+use crate::adding::add_change;
 use crate::ended::Ended;
 use crate::partition_state::PartitionState;
 use crate::reply::Reply;
 use gt_disk::{Disk, Failed};
 use gt_list::NoMemory;
-use gt_log::LogError;
-use gt_model::{Change, Entry, Limits, Refusal};
+use gt_model::{Change, Limits, Refusal};
 use gt_name::RepoPath;
 use std::alloc::Global;
 
@@ -106,23 +106,8 @@ fn delete_unused<D: Disk>(
     ensures counted { D.call_count disk.new ≤ D.call_count disk.old + 4 }
     ensures moves { IsTrue D.tells → Moves limits.now (state_of state.old) (state_of state.new) (D.view disk.old) (D.view disk.new) }
 {
-    let front = state.journal.table().front();
-    if limits.positions <= front {
-        return Ended::LogFull;
-    }
-    let Ok(path) = path.clone() else {
-        return Ended::Memory;
-    };
-    let position = front + 1;
-    let entry = Entry {
-        position,
-        path,
-        change: Change::Delete,
-    };
-    match state.journal.add(alloc, limits, disk, entry) {
-        Ok(()) => Ended::Deleted { position },
-        Err(LogError::Untouched) => Ended::DeviceFault,
-        Err(LogError::Unsure) => Ended::Unsure { position },
-        Err(LogError::Memory) => Ended::Memory,
+    match add_change(alloc, limits, state, disk, path, Change::Delete) {
+        Ok(position) => Ended::Deleted { position },
+        Err(ended) => ended,
     }
 }

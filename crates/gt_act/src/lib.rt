@@ -3,6 +3,7 @@
 #![tactic(auto)]
 
 mod aborting;
+mod adding;
 mod beginning;
 mod committing;
 mod creating;

@@ -10,14 +10,13 @@ use Rattle.gt_model.specs.declared.done.Done.TheVariants.{Begun}
 use Rattle.gt_model.specs.declared.event.Event.TheVariants.{Begin}
 use Rattle.gt_model.specs.declared.limits.Limits.{Limits}
 use Rattle.gt_model.specs.declared.refusal.Refusal.{Refusal}
-use Rattle.gt_model.specs.declared.refusal.Refusal.TheVariants.{RepositoryGone, ReferenceConflict, DirectoryConflict, MissingObject, Unsure, Behind, PinsFull, NoRepository}
+use Rattle.gt_model.specs.declared.refusal.Refusal.TheVariants.{Behind, PinsFull, NoRepository}
 use Rattle.gt_model.specs.Contents.{has_repo}
 use Rattle.gt_model.specs.Machine.{Pin, State, Effect, Step, Acts, Ends, Fails, SettledEntry, effect, reading, answers, refuses, first_refusal, front, content, free_number, is_live, released}
-use Rattle.gt_act.specs.Live as part
-use Rattle.gt_act.specs.Live.{GivesPin, EndsBy}
+use Rattle.gt_act.specs.Live.{GivesPin, Ended, EndsBy}
 use Rattle.gt_part.specs.Shown.{Shown, memory}
+use Rattle.gt_pins.specs.Ends.{ends}
 use Rattle.gt_pins.proofs.Numbers.{free_number_free}
-use Rattle.gt_session.specs.Courses.{ends}
 use Rattle.gt_session.specs.Calls.{without, with_live, ended, GivesPass}
 use Rattle.gt_prog.specs.One.{in_one}
 use Rattle.gt_prog.proofs.One.{one_with, one_at, one_held}
@@ -132,29 +131,20 @@ gone_live partition n old new first same =
 
 -- ---- a commit
 
-ends_same : (a : Result Done Refusal) → part.ends a ≡ ends a
-ends_same (Ok done) = refl
-ends_same (Err RepositoryGone) = refl
-ends_same (Err (ReferenceConflict name expected actual)) = refl
-ends_same (Err (DirectoryConflict name existing)) = refl
-ends_same (Err (MissingObject name needer)) = refl
-ends_same (Err (Unsure position)) = refl
-ends_same (Err refusal) = refl
-
 module _ (a : Result Done Refusal) (partition : ℕ) (before pass : Option ℕ) (old new : List Pin) (first : partition ≡ 1) (by_part : IfSome before (λ n. EndsBy a n pass old new)) (some : before ≡ None → ⊥) where
   abbrev Splits : Bool → Option ℕ → Type 0
-  Splits b (Some n) = part.Ended b n pass old new
+  Splits b (Some n) = Ended b n pass old new
   Splits b None = ⊥
 
-  splits : (b : Bool) → part.ends a ≡ b → Splits b before
+  splits : (b : Bool) → ends a ≡ b → Splits b before
   splits b is = at before by_part some
     where
       at : (o : Option ℕ) → IfSome o (λ n. EndsBy a n pass old new) → (o ≡ None → ⊥) → Splits b o
       at None h none = none refl
-      at (Some n) h none = subst (λ (x : Bool). part.Ended x n pass old new) is h
+      at (Some n) h none = subst (λ (x : Bool). Ended x n pass old new) is h
 
   pub pass_ended : ends a ≡ true → (pass ≡ None) × IfSome before (λ n. in_one (numbers new) ≡ ended (in_one (numbers old)) partition n)
-  pass_ended is = at before (splits true (ends_same a ∙ is))
+  pass_ended is = at before (splits true is)
     where
       at : (o : Option ℕ) → Splits true o → (pass ≡ None) × IfSome o (λ n. in_one (numbers new) ≡ ended (in_one (numbers old)) partition n)
       at None h = absurd h

@@ -14,11 +14,12 @@ use Rattle.gt_model.specs.declared.event.Event.TheVariants as event
 use Rattle.gt_model.specs.declared.refusal.Refusal.{Refusal}
 use Rattle.gt_model.specs.declared.refusal.Refusal.TheVariants.{BadPath, BadRef, NotOpen, AlreadyOpen, NoRepository, Memory}
 use Rattle.gt_model.specs.declared.who.Who.{Who}
+use Rattle.gt_pins.specs.Ends.{ends}
 use Rattle.gt_script.specs.declared.form.Form.{Form}
 use Rattle.gt_script.specs.declared.form.Form.TheVariants as line
 use Rattle.gt_stage.specs.Staging.{Holding, own_ref, own_record, is_over_refs, is_over_bytes, staged_set, staged_check, staged_put}
 use Rattle.gt_session.specs.Sessions.{Open, Session, forgotten, seen_of, told}
-use Rattle.gt_session.specs.Courses.{Turned, Course, MapEvent, ask, assign, alone, finds, asks, reads, refuses, with_path, with_ref, staged, put_record, refusal_of, put, set, check, old_in, with_old, value_of, get, list_in, cat, content_of, course, ends, after_event}
+use Rattle.gt_session.specs.Courses.{Turned, Course, MapEvent, ask, assign, alone, finds, asks, reads, refuses, with_path, with_ref, staged, put_record, refusal_of, put, set, check, old_in, with_old, value_of, get, list_in, cat, content_of, course, after_event}
 use Rattle.gt_session.specs.Calls.{Takes, Makes, Answers, Follows, Does}
 
 -- ---- a course that leaves the number

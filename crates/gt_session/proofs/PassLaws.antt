@@ -7,7 +7,8 @@ use Rattle.gt_model.specs.declared.done.Done.{Done}
 use Rattle.gt_model.specs.declared.event.Event.TheVariants.{Begin}
 use Rattle.gt_model.specs.declared.refusal.Refusal.{Refusal}
 use Rattle.gt_stage.specs.Staging.{Holding}
-use Rattle.gt_session.specs.Courses.{begins, ends}
+use Rattle.gt_pins.specs.Ends.{ends}
+use Rattle.gt_session.specs.Courses.{begins}
 use Rattle.gt_session.specs.Pieces.{open_with}
 use Rattle.gt_session.specs.Calls.{without, with_live, ended, GivesPass, IsHeld, LeavesOthers}
 

@@ -17,10 +17,11 @@ use Rattle.gt_model.specs.declared.event.Event.{Event}
 use Rattle.gt_model.specs.declared.event.Event.TheVariants as event
 use Rattle.gt_model.specs.declared.reference.RefValue.{RefValue}
 use Rattle.gt_model.specs.declared.refusal.Refusal.{Refusal}
-use Rattle.gt_model.specs.declared.refusal.Refusal.TheVariants.{RepositoryGone, ReferenceConflict, DirectoryConflict, MissingObject, StageFull, TooLarge, BadObject, BadRef, BadPath, NotOpen, AlreadyOpen, Unsure, Memory}
+use Rattle.gt_model.specs.declared.refusal.Refusal.TheVariants.{StageFull, TooLarge, BadObject, BadRef, BadPath, NotOpen, AlreadyOpen, Memory}
 use Rattle.gt_model.specs.declared.update.RefUpdate.{RefUpdate}
 use Rattle.gt_model.specs.Contents.{key_cmp, zero, is_zero, Names, with_refs}
 use Rattle.gt_model.specs.Machine.{references}
+use Rattle.gt_pins.specs.Ends.{ends}
 use Rattle.gt_script.specs.declared.form.Form.{Form}
 use Rattle.gt_script.specs.declared.form.Form.TheVariants as line
 use Rattle.gt_stage.specs.Staging.{Holding, own_ref, own_record, is_over_refs, is_over_bytes, staged_set, staged_check, staged_put}
@@ -159,16 +160,6 @@ has_course line.Abort = true
 has_course form = false
 
 -- ---- after a call of a partition
-
--- whether an answer to a commit ends the transaction
-abbrev pub ends : Result Done Refusal → Bool
-ends (Ok done) = true
-ends (Err RepositoryGone) = true
-ends (Err (ReferenceConflict name expected actual)) = true
-ends (Err (DirectoryConflict name existing)) = true
-ends (Err (MissingObject name needer)) = true
-ends (Err (Unsure position)) = true
-ends (Err refusal) = false
 
 -- whether an event with this answer begins a transaction, which gives a pass
 abbrev pub begins : Event → Result Done Refusal → Bool

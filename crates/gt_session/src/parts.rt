@@ -7,7 +7,8 @@ ghost use Rattle.gt_model.specs.declared.event.Event.{Event};
 ghost use Rattle.gt_model.specs.declared.refusal.Refusal.{Refusal};
 ghost use Rattle.gt_model.specs.declared.who.Who.{Who};
 ghost use Rattle.gt_session.specs.Sessions.{IsPartition};
-ghost use Rattle.gt_session.specs.Courses.{MapEvent, ask, assign, ends};
+ghost use Rattle.gt_pins.specs.Ends.{ends};
+ghost use Rattle.gt_session.specs.Courses.{MapEvent, ask, assign};
 ghost use Rattle.gt_session.specs.Calls.{GivesPass, IsHeld, as_found, ended};
 
 use crate::Numbered;

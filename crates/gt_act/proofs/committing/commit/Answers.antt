@@ -18,7 +18,7 @@ returns-in-Err-clause-moves g c told = settling_moves c.args.limits.now (state_o
 
 pub returns-clause-moves : goal.returns-clause-moves
 returns-clause-moves g c told =
-    settled_moves c.args.limits.now (state_of c.args.state.now) _ _ _ _ _ (c.in_default.ensures.settles c.args.state.now.live) c.in_default.ensures.settled (c.settle.ensures.moves told c.args.limits.now _ _) (c.commit_settled.ensures.moves told)
+    settled_moves c.args.limits.now (state_of c.args.state.now) _ _ _ _ _ (c.in_default.ensures.settles c.args.state.now.live) c.in_default.ensures.settled (c.settle.ensures.moves told c.args.limits.now _ _) (c.carry_out.ensures.moves told)
 
 pub returns-then-is_empty-clause-step : goal.returns-then-is_empty-clause-step
 returns-then-is_empty-clause-step g c =
@@ -35,4 +35,4 @@ returns-clause-step g c =
     let records = c.args.stage.now.staged.records in
     let live : is_live_as is_transaction c.args.state.now.live c.args.pin.now ≡ true = c.are_transactions.ensures c.args.pin.now ∙ c.requires in
     let some : is_empty refs records ≡ false = search rules in
-    then_acts c.args.limits.now (Commit c.args.pin.now refs records) (state_of c.args.state.now) _ _ _ live (ap not some) refl (c.in_default.ensures.settles c.args.state.now.live) c.commit_settled.ensures.acts
+    then_acts c.args.limits.now (Commit c.args.pin.now refs records) (state_of c.args.state.now) _ _ _ live (ap not some) refl (c.in_default.ensures.settles c.args.state.now.live) c.carry_out.ensures.acts

@@ -1,7 +1,7 @@
 use Rattle.std.proofs.Common.{◌≡◌, List, Some, true, sym, ◌∙◌, refl, ap, subst}
 use Rattle.gt_model.specs.Machine.{State, Pin, is_live}
 use Rattle.gt_part.specs.Shown.{memory}
-use Rattle.gt_act.specs.Live.{ends}
+use Rattle.gt_pins.specs.Ends.{ends}
 use Rattle.gt_act.proofs.Commits.{Leaves, commit_ends, pin_kept, pin_gone}
 use Rattle.gt_part.proofs.partition.Partition.commit.Goals as goal
 

@@ -7,7 +7,7 @@ use Rattle.gt_act.specs.PartitionState.{state_of}
 use Rattle.gt_act.proofs.Causes.{sure_cause}
 use Rattle.gt_act.proofs.Commits.{verdict_ends}
 use Rattle.gt_act.proofs.Stepping.{fewer_by}
-use Rattle.gt_act.proofs.committing.commit_settled.Goals as goal
+use Rattle.gt_act.proofs.committing.carry_out.Goals as goal
 
 pub invariant_of-state : goal.invariant_of-state
 invariant_of-state g c = record { reads = subst (λ (pins : List Pin). ReadBefore (length c.args.state.now.journal.log) pins) (sym c.release.ensures) (reads_released (length c.args.state.now.journal.log) c.args.state.now.live c.args.pin.now c.args.state.now.reads) }
@@ -17,6 +17,6 @@ returns-in-Refused-clause-fewer g c = fewer_by c.args.state.now.live _ c.args.pi
 
 pub returns-in-Refused-clause-cause : goal.returns-in-Refused-clause-cause
 returns-in-Refused-clause-cause g c =
-    let said = c.in-Refused.ensures in
+    let said = rw c.in-Refused.is at c.requires.checked in
     let sure : is_faulty c.refused.result.answer ≡ false = ap is_faulty c.refused.ensures.answer ∙ (verdict_ends (after_all nothing c.args.state.now.journal.log) (pin_of (state_of c.args.state.now) c.args.pin.now).path c.args.stage.now.staged c.in-Refused.answer said.failed).1 in
     sure_cause _ c.refused.result.answer sure
