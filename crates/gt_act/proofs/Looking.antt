@@ -14,7 +14,7 @@ use Rattle.gt_model.specs.Machine.{State, Pin, Step, Ends, Fails, effect, reads_
 use Rattle.gt_model.specs.Verdicts.{refs_in}
 use Rattle.gt_objset.specs.declared.place.Place.{Place}
 use Rattle.gt_table.specs.Table.{content_at, place_at}
-use Rattle.gt_base.specs.Ledger.{Ledger, state_of}
+use Rattle.gt_journal.specs.Ledger.{Ledger, state_of}
 use Rattle.gt_act.specs.Cat.{CatHappens, HeldSo}
 use Rattle.gt_act.proofs.Stepping.{at_once, stops}
 

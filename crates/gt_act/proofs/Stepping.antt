@@ -18,10 +18,10 @@ use Rattle.gt_model.specs.declared.refusal.Refusal.TheVariants.{Memory, DeviceFa
 use Rattle.gt_model.specs.Machine.{State, Pin, Effect, Fails, effect, reading, pin_of, released, is_live_as, is_transaction, is_empty, committed, answers, front, content, is_full, next_entry, with_entry, with_pins, refuses, adds, unless, is_asked, settles, settles_turn, after_fault, RunsOut, Ends, Acts, SettledEntry, SettledTurn, Step}
 use Rattle.gt_model.specs.Contents.{has_repo, least_member}
 use Rattle.gt_history.proofs.Moves as moves
-use Rattle.gt_base.specs.Ledger.{Ledger, StoredBy, Stored, state_of}
-use Rattle.gt_base.specs.Recovery.{recover, Keeps, counters}
-use Rattle.gt_base.specs.Histories.{Moves, Settling}
-use Rattle.gt_base.proofs.Images.{stored_of, by_stored}
+use Rattle.gt_journal.specs.Ledger.{Ledger, StoredBy, Stored, state_of}
+use Rattle.gt_journal.specs.Recovery.{recover, Keeps, counters}
+use Rattle.gt_journal.specs.Histories.{Moves, Settling}
+use Rattle.gt_journal.proofs.Images.{stored_of, by_stored}
 use Rattle.gt_act.specs.declared.ended.Ended.{Ended}
 use Rattle.gt_act.specs.declared.ended.Ended.TheVariants as ended
 use Rattle.gt_act.specs.Adding.{AddsChange}

@@ -1,8 +1,8 @@
 ghost use Rattle.std.specs.Prelude.{◌≡◌, ◌≤◌, ◌+◌, IsTrue, IfErr, OnOk, None, Err, true, length};
 ghost use Rattle.gt_entry.specs.Fits.{HasChangeSpelling};
 ghost use Rattle.gt_model.specs.Contents.{nothing, after_all, change_fits};
-ghost use Rattle.gt_table.specs.Built.{IsBuilt, is_built};
-ghost use Rattle.gt_base.specs.Histories.{Moves};
+ghost use Rattle.gt_base.specs.Built.{IsBuilt, is_built};
+ghost use Rattle.gt_journal.specs.Histories.{Moves};
 ghost use Rattle.gt_write.specs.Checking.{IsGoodWrite};
 ghost use Rattle.gt_act.specs.PartitionState.{state_of};
 ghost use Rattle.gt_act.specs.Adding.{AddsEntry, AddsChange};

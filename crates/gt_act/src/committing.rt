@@ -7,11 +7,11 @@ ghost use Rattle.gt_act.specs.PartitionState.{state_of};
 ghost use Rattle.gt_act.specs.Causes.{CallCause, settling_calls};
 ghost use Rattle.gt_act.specs.Ended.{answer_of, IsKeptOf};
 ghost use Rattle.gt_act.specs.declared.ended.Ended.{Ended as End};
-ghost use Rattle.gt_base.specs.Histories.{Moves};
+ghost use Rattle.gt_journal.specs.Histories.{Moves};
 ghost use Rattle.gt_model.specs.Contents.{nothing, after_all};
 ghost use Rattle.gt_write.specs.declared.checked.Checked.{Checked as Came};
 ghost use Rattle.gt_write.specs.Checking.{IsChecked, IsGoodWrite};
-ghost use Rattle.gt_table.specs.Built.{IsBuilt};
+ghost use Rattle.gt_base.specs.Built.{IsBuilt};
 
 use crate::ended::Ended;
 use crate::partition_state::PartitionState;

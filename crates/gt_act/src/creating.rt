@@ -6,7 +6,7 @@ ghost use Rattle.gt_act.specs.PartitionState.{state_of};
 ghost use Rattle.gt_act.specs.declared.ended.Ended.{Ended as End};
 ghost use Rattle.gt_act.specs.Causes.{CallCause, settling_calls};
 ghost use Rattle.gt_act.specs.Ended.{answer_of};
-ghost use Rattle.gt_base.specs.Histories.{Moves};
+ghost use Rattle.gt_journal.specs.Histories.{Moves};
 
 use crate::adding::add_change;
 use crate::ended::Ended;

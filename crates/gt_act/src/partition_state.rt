@@ -1,7 +1,7 @@
 ghost use Rattle.std.specs.Prelude.{length};
 ghost use Rattle.gt_pins.specs.Live.{ReadBefore, reads_before};
 
-use gt_base::Journal;
+use gt_journal::Journal;
 use gt_pins::Live;
 
 /// The log of a partition, and the live transactions, each of which reads a position of it.

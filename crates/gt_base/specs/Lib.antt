@@ -1,5 +1,8 @@
+pub mod Built
+pub mod Packs
+pub mod Held
 pub mod Spelling
+pub mod Entries
 pub mod Recovery
-pub mod Ledger
-pub mod Histories
+pub mod Answers
 pub mod Loading

@@ -4,7 +4,7 @@ use Rattle.gt_disk.specs.Files.{Content as FileContent}
 use Rattle.gt_entry.specs.Reading.{entry_of}
 use Rattle.gt_entry.specs.Spelling.{spelling}
 use Rattle.gt_model.specs.declared.entry.Entry.{Entry}
-use Rattle.gt_table.specs.Built.{IsBuilt}
+use Rattle.gt_base.specs.Built.{IsBuilt}
 
 abbrev pub encode : Entry → List ℕ
 encode = spelling

@@ -1,11 +1,10 @@
-//! What the files of a partition recover to: its log is loaded, or the first damage is named; it is kept in memory with what
-//! it has made and with an entry that is in doubt, and goes on by one entry after the other.
+//! What the files of a partition recover to: a manifest, the files that it names, and the entries past them.
 #![tactic(auto)]
 
-mod journal;
-mod laws;
-mod loading;
-mod spelling;
+mod base;
+mod held;
+mod reading;
+mod repos;
 
-pub use journal::Journal;
-pub use laws::{empty_disks_are_good, placed_records_are_held, stops_leave_good_disks};
+pub use base::Base;
+pub use held::{BaseContent, BaseRepo, HeldPack, HeldPacks};

@@ -59,6 +59,13 @@ impl PackIndex {
         find_in(self.items.as_slice(), name)
     }
 
+    /// The places of all records, in order of their names. It takes no memory.
+    pub fn items(&self) -> &[Placed]
+        ensures { result.now ≡ self.now }
+    {
+        self.items.as_slice()
+    }
+
     /// Name, place and length of the record of this index, from 0, in order of the names. None exactly from the number of
     /// records on. It takes no memory.
     pub fn item(&self, i: u32) -> Option<(Name, u64, u32)>

@@ -15,10 +15,10 @@ use Rattle.gt_model.specs.Machine.{State, Step, StepOnAny, RunsOut, is_asked, is
 use Rattle.gt_sound.specs.Sound.{IsKnown}
 use Rattle.gt_history.specs.Runs.{KeepsPast}
 use Rattle.gt_history.proofs.Runs as runs
-use Rattle.gt_base.specs.Recovery.{recover, Keeps, counters}
-use Rattle.gt_base.specs.Ledger.{Stored}
-use Rattle.gt_base.specs.Histories.{Moves, IsHistory}
-use Rattle.gt_base.proofs.Images.{recovered_legal, stored_gives}
+use Rattle.gt_journal.specs.Recovery.{recover, Keeps, counters}
+use Rattle.gt_journal.specs.Ledger.{Stored}
+use Rattle.gt_journal.specs.Histories.{Moves, IsHistory}
+use Rattle.gt_journal.proofs.Images.{recovered_legal, stored_gives}
 use Rattle.gt_part.specs.Called.{Called, Acted, Stepped, reads_object, own_calls}
 use Rattle.gt_act.specs.Causes.{CallCause, IsLike, settling_calls}
 use Rattle.gt_part.specs.Shown.{Shown, memory, Stands, HasRun, Continues, OneEvent, turn_of}

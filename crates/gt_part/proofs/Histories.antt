@@ -16,10 +16,10 @@ use Rattle.gt_sound.proofs.Logs.{log_sound, sound_line, sound_state}
 use Rattle.gt_history.specs.Runs.{KeepsPast}
 use Rattle.gt_history.proofs.Safe.{same_ok}
 use Rattle.gt_history.proofs.Runs as runs
-use Rattle.gt_base.specs.Recovery.{recover, Keeps, counters}
-use Rattle.gt_base.specs.Ledger.{Ledger, StoredBy, Stored, state_of}
-use Rattle.gt_base.specs.Histories.{IsGood, Gives, Holds, IsHistory}
-use Rattle.gt_base.proofs.Images.{recovered_legal, stored_gives, by_stored}
+use Rattle.gt_journal.specs.Recovery.{recover, Keeps, counters}
+use Rattle.gt_journal.specs.Ledger.{Ledger, StoredBy, Stored, state_of}
+use Rattle.gt_journal.specs.Histories.{IsGood, Gives, Holds, IsHistory}
+use Rattle.gt_journal.proofs.Images.{recovered_legal, stored_gives, by_stored}
 use Rattle.gt_part.specs.Mounts.{Mounts}
 use Rattle.gt_part.specs.Shown.{Shown, memory, HasRun, Continues, OneOpening, faults_in}
 

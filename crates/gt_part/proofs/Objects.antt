@@ -16,8 +16,8 @@ use Rattle.gt_sound.specs.Sound.{IsSoundState}
 use Rattle.gt_objset.specs.declared.place.Place.{Place}
 use Rattle.gt_places.specs.Reading.{piece, IsRecordOf}
 use Rattle.gt_table.specs.Table.{place_at}
-use Rattle.gt_base.specs.Ledger.{Ledger, StoredBy, state_of}
-use Rattle.gt_base.proofs.Placed.{IsHeld, placed_is}
+use Rattle.gt_journal.specs.Ledger.{Ledger, StoredBy, state_of}
+use Rattle.gt_journal.proofs.Placed.{IsHeld, placed_is}
 use Rattle.gt_act.specs.Cat.{IsNamedSo, HeldSo, CatGives}
 
 module _ (limits : Limits) (l : Ledger) (pins : List Pin) (pin : ℕ) (name : List ℕ) (v : View) (stored : StoredBy limits l (now v)) (sound : IsSoundState (opening (unapplied l.log))) (shows : IsImage (now v) v.reads) (few : length l.log < 2 ^ 64) where

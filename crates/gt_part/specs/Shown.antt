@@ -12,8 +12,8 @@ use Rattle.gt_model.specs.declared.who.Who.{Who}
 use Rattle.gt_model.specs.Machine.{State, Pin, Step, front, is_faulty}
 use Rattle.gt_model.specs.Histories.{Happening, event, opened, kept, last_state}
 use Rattle.gt_history.specs.Runs.{KeepsPast}
-use Rattle.gt_base.specs.Ledger.{Ledger, state_of}
-use Rattle.gt_base.specs.Histories.{IsGood, Holds, IsHistory}
+use Rattle.gt_journal.specs.Ledger.{Ledger, state_of}
+use Rattle.gt_journal.specs.Histories.{IsGood, Holds, IsHistory}
 
 -- its number, its disk, its limits, its log in memory, what is live, and the trail: the references at this opening, and the records of the events since
 pub record Shown (D : Type 0) : Type 0 where

@@ -3,13 +3,13 @@ ghost use Rattle.gt_disk.specs.Files.{Rose, now};
 ghost use Rattle.gt_disk.specs.Moments.{Since, Narrows};
 ghost use Rattle.gt_model.specs.Machine.{State, Settles, opening, unapplied, content, is_live};
 ghost use Rattle.gt_model.specs.Histories.{Happening, all_refs, last_state};
-ghost use Rattle.gt_base.specs.Recovery.{recover};
-ghost use Rattle.gt_base.specs.Histories.{IsGood, Holds};
+ghost use Rattle.gt_journal.specs.Recovery.{recover};
+ghost use Rattle.gt_journal.specs.Histories.{IsGood, Holds};
 ghost use Rattle.gt_part.specs.Mounts.{Mounts, HasMountCause};
 ghost use Rattle.gt_part.specs.Shown.{memory, Counts, HasRun, Continues, OneOpening, pins_of, front_of};
 
 use gt_act::PartitionState;
-use gt_base::Journal;
+use gt_journal::Journal;
 use gt_disk::Disk;
 use gt_list::ReservedVec;
 use gt_log::{MountCause, MountError};

@@ -9,7 +9,7 @@ use Rattle.gt_prog.specs.declared.playing.PlayCause.TheVariants.{Write, Device, 
 use Rattle.gt_script.specs.declared.request.Request.{Request}
 use Rattle.gt_prog.specs.declared.status.Status.{Status}
 use Rattle.gt_prog.specs.declared.status.Status.TheVariants.{Done, Usage, ReadFault, WriteFault, DiskFault, Damaged, Memory, BadInput, NotYet}
-use Rattle.gt_base.specs.Histories.{IsGood}
+use Rattle.gt_journal.specs.Histories.{IsGood}
 use Rattle.gt_prog.specs.Replay.{ReplayedPart}
 use Rattle.gt_prog.specs.Statuses.{Asks, IsUntouched, IsDone, IsCutShort, IsBroken, WorkEnds, status_of_play}
 

@@ -14,9 +14,9 @@ use Rattle.gt_model.specs.declared.refusal.Refusal.{Refusal}
 use Rattle.gt_model.specs.Machine.{State, Recovered, Settles, opening, unapplied, front, is_faulty}
 use Rattle.gt_model.specs.Histories.{Happening, last_state}
 use Rattle.gt_outside.specs.Written.{AppendsAll, AppendsFront}
-use Rattle.gt_base.specs.Recovery.{recover}
-use Rattle.gt_base.specs.Histories.{IsGood}
-use Rattle.gt_base.specs.Histories.{Holds}
+use Rattle.gt_journal.specs.Recovery.{recover}
+use Rattle.gt_journal.specs.Histories.{IsGood}
+use Rattle.gt_journal.specs.Histories.{Holds}
 use Rattle.gt_part.specs.Mounts.{Mounts}
 use Rattle.gt_history.specs.Runs.{KeepsPast}
 use Rattle.gt_part.specs.Shown.{memory, Shown, HasRun, Continues, OneOpening}

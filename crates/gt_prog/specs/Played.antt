@@ -10,7 +10,7 @@ use Rattle.gt_model.specs.declared.refusal.Refusal.{Refusal}
 use Rattle.gt_model.specs.Machine.{State}
 use Rattle.gt_model.specs.Histories.{Happening}
 use Rattle.gt_outside.specs.Written.{AppendsAll, AppendsFront}
-use Rattle.gt_base.specs.Histories.{Holds}
+use Rattle.gt_journal.specs.Histories.{Holds}
 use Rattle.gt_history.specs.Runs.{KeepsPast}
 use Rattle.gt_part.specs.Shown.{memory, Shown, HasRun, Continues}
 use Rattle.gt_script.specs.declared.form.Form.TheVariants.{Restart}

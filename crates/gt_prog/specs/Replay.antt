@@ -6,9 +6,9 @@ use Rattle.gt_model.specs.declared.limits.Limits.{Limits}
 use Rattle.gt_model.specs.Histories.{position}
 use Rattle.gt_model.specs.Machine.{Recovered, front, opening}
 use Rattle.gt_outside.specs.Written.{AppendsAll, AppendsFront}
-use Rattle.gt_base.specs.Recovery.{recover}
-use Rattle.gt_base.specs.Histories.{IsGood}
-use Rattle.gt_base.specs.Histories.{Holds}
+use Rattle.gt_journal.specs.Recovery.{recover}
+use Rattle.gt_journal.specs.Histories.{IsGood}
+use Rattle.gt_journal.specs.Histories.{Holds}
 use Rattle.gt_script.specs.declared.request.Request.{Request}
 use Rattle.gt_prog.specs.declared.playing.PlayCause.{PlayCause}
 use Rattle.gt_prog.specs.declared.playing.PlayCause.TheVariants.{Memory}

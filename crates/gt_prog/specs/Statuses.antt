@@ -7,7 +7,7 @@ use Rattle.gt_log.specs.declared.mount_cause.MountCause.{MountCause}
 use Rattle.gt_log.specs.declared.mount_cause.MountCause.TheVariants.{DeviceFault, Damaged as DamagedFile, Memory as NoMemoryToMount}
 use Rattle.gt_model.specs.declared.limits.Limits.{Limits}
 use Rattle.gt_model.specs.Usual.{usual}
-use Rattle.gt_base.specs.Histories.{IsGood}
+use Rattle.gt_journal.specs.Histories.{IsGood}
 use Rattle.gt_prog.specs.declared.playing.PlayCause.{PlayCause}
 use Rattle.gt_prog.specs.declared.playing.PlayCause.TheVariants.{Write, Device, Damaged as DamagedLater, Memory as NoMemoryToPlay}
 use Rattle.gt_script.specs.declared.request.Request.{Request}

@@ -1,3 +1,4 @@
+pub mod BeginLemmas
 pub mod LooseLemmas
 pub mod PartsLemmas
 pub mod ListLemmas

@@ -67,43 +67,43 @@ parts_missing text e = only_part text (missing (λ b. eqb b 10) text e)
 -- ---- the loop over the lines
 
 -- a line that may stand there
-pub line_goes : (number : ℕ) (so_far next : PackedSoFar) (text line after : List ℕ) (total : Result PackedSoFar ℕ) → parts_of text ≡ (line, (parts_of after).0 ∷ (parts_of after).1)
-    → after_line number so_far line ≡ Some next → read_from so_far number text ≡ total → read_from next (number + 1) after ≡ total
+pub line_goes : (number : ℕ) (progress next : PackedSoFar) (text line after : List ℕ) (total : Result PackedSoFar ℕ) → parts_of text ≡ (line, (parts_of after).0 ∷ (parts_of after).1)
+    → after_line number progress line ≡ Some next → read_from progress number text ≡ total → read_from next (number + 1) after ≡ total
 unfolding read_from
-line_goes number so_far next text line after total parts moved so_far =
-    let one : read_from so_far number text ≡ read_from next (number + 1) after = rw (parts, moved) refl in
+line_goes number progress next text line after total parts moved so_far =
+    let one : read_from progress number text ≡ read_from next (number + 1) after = rw (parts, moved) refl in
     sym one ∙ so_far
 
 -- a line that may not
-line_bad : (number : ℕ) (so_far : PackedSoFar) (text line after : List ℕ) (total : Result PackedSoFar ℕ) → parts_of text ≡ (line, (parts_of after).0 ∷ (parts_of after).1)
-    → after_line number so_far line ≡ None → read_from so_far number text ≡ total → total ≡ Err number
+line_bad : (number : ℕ) (progress : PackedSoFar) (text line after : List ℕ) (total : Result PackedSoFar ℕ) → parts_of text ≡ (line, (parts_of after).0 ∷ (parts_of after).1)
+    → after_line number progress line ≡ None → read_from progress number text ≡ total → total ≡ Err number
 unfolding read_from
-line_bad number so_far text line after total parts moved so_far =
-    let one : read_from so_far number text ≡ Err number = rw (parts, moved) refl in
+line_bad number progress text line after total parts moved so_far =
+    let one : read_from progress number text ≡ Err number = rw (parts, moved) refl in
     sym so_far ∙ one
 
-pub line_fails : (e : RefTextError) (number : ℕ) (so_far : PackedSoFar) (text line after : List ℕ) (total : Result PackedSoFar ℕ) → parts_of text ≡ (line, (parts_of after).0 ∷ (parts_of after).1)
-    → Moves number (Err e) (after_line number so_far line) → read_from so_far number text ≡ total → Fails e total
-line_fails Memory number so_far text line after total parts moved so_far = tt
-line_fails (BadLine n) number so_far text line after total parts moved so_far = line_bad number so_far text line after total parts moved.0 so_far ∙ ap (λ (k : ℕ). Err k) (sym moved.1)
+pub line_fails : (e : RefTextError) (number : ℕ) (progress : PackedSoFar) (text line after : List ℕ) (total : Result PackedSoFar ℕ) → parts_of text ≡ (line, (parts_of after).0 ∷ (parts_of after).1)
+    → Moves number (Err e) (after_line number progress line) → read_from progress number text ≡ total → Fails e total
+line_fails Memory number progress text line after total parts moved so_far = tt
+line_fails (BadLine n) number progress text line after total parts moved so_far = line_bad number progress text line after total parts moved.0 so_far ∙ ap (λ (k : ℕ). Err k) (sym moved.1)
 
 -- after the last line feed
-pub line_ends : (number : ℕ) (so_far : PackedSoFar) (text : List ℕ) (total : Result PackedSoFar ℕ) → parts_of text ≡ alone text → read_from so_far number text ≡ total → total ≡ cond (eqb (length text) 0) (Ok so_far) (Err number)
+pub line_ends : (number : ℕ) (progress : PackedSoFar) (text : List ℕ) (total : Result PackedSoFar ℕ) → parts_of text ≡ alone text → read_from progress number text ≡ total → total ≡ cond (eqb (length text) 0) (Ok progress) (Err number)
 unfolding read_from
-line_ends number so_far text total parts so_far =
-    let one : read_from so_far number text ≡ cond (eqb (length text) 0) (Ok so_far) (Err number) = rw parts refl in
+line_ends number progress text total parts so_far =
+    let one : read_from progress number text ≡ cond (eqb (length text) 0) (Ok progress) (Err number) = rw parts refl in
     sym so_far ∙ one
 
 -- ---- the first reference
 
 -- Before the first reference nothing was noted, and the first of what is left is the first of all; after it all had one.
-pub record IsBegun (number : ℕ) (so_far : PackedSoFar) (text : List ℕ) (first : Option PackedRef) : Type 0 where
-  pub none : so_far.1 ≡ None → (so_far.0 ≡ []) × (first_from number text ≡ first)
-  pub some : IsSome so_far.1 → IsSome first
+pub record IsBegun (number : ℕ) (progress : PackedSoFar) (text : List ℕ) (first : Option PackedRef) : Type 0 where
+  pub none : progress.1 ≡ None → (progress.0 ≡ []) × (first_from number text ≡ first)
+  pub some : IsSome progress.1 → IsSome first
 
 -- a line with a reference is the first, or comes after it
-pub line_first : (number : ℕ) (so_far : PackedSoFar) (text line after : List ℕ) (first : Option PackedRef) → parts_of text ≡ (line, (parts_of after).0 ∷ (parts_of after).1)
-    → IsBegun number so_far text first → IsReference number line → IsSome first
+pub line_first : (number : ℕ) (progress : PackedSoFar) (text line after : List ℕ) (first : Option PackedRef) → parts_of text ≡ (line, (parts_of after).0 ∷ (parts_of after).1)
+    → IsBegun number progress text first → IsReference number line → IsSome first
 unfolding first_from
 line_first number (done, None) text line after first parts so_far is =
     let one : first_from number text ≡ ref_line line = rw (parts, is.below) refl in
@@ -129,10 +129,10 @@ peeled_some done (Some r) (Some name) next e =
     ] e
 
 -- a reference more is noted
-ref_some : (so_far : PackedSoFar) (found : Option PackedRef) (next : PackedSoFar) → with_ref so_far found ≡ Some next → IsSome found × IsSome next.1
-ref_some so_far None next e = absurd cc
-ref_some so_far (Some r) next e =
-    elim (has_name so_far r.name) as (λ v. cond v None (Some (put so_far.0 so_far.1, Some r)) ≡ Some next → IsSome {T = PackedRef} (Some r) × IsSome next.1) [
+ref_some : (progress : PackedSoFar) (found : Option PackedRef) (next : PackedSoFar) → with_ref progress found ≡ Some next → IsSome found × IsSome next.1
+ref_some progress None next e = absurd cc
+ref_some progress (Some r) next e =
+    elim (has_name progress r.name) as (λ v. cond v None (Some (put progress.0 progress.1, Some r)) ≡ Some next → IsSome {T = PackedRef} (Some r) × IsSome next.1) [
       | true ↦ λ h. absurd cc
       | false ↦ λ h. let P : PackedSoFar → Type 0 = λ s. IsSome s.1 in (refl, subst P (some_is _ next h) refl)
     ] e
@@ -142,35 +142,35 @@ either true = inl refl
 either false = inr refl
 
 -- a header says nothing
-header_goes : (number : ℕ) (so_far next : PackedSoFar) (text line after : List ℕ) (first : Option PackedRef) → parts_of text ≡ (line, (parts_of after).0 ∷ (parts_of after).1)
-    → is_header number line ≡ true → so_far ≡ next → IsBegun number so_far text first → IsBegun (number + 1) next after first
+header_goes : (number : ℕ) (progress next : PackedSoFar) (text line after : List ℕ) (first : Option PackedRef) → parts_of text ≡ (line, (parts_of after).0 ∷ (parts_of after).1)
+    → is_header number line ≡ true → progress ≡ next → IsBegun number progress text first → IsBegun (number + 1) next after first
 unfolding first_from
-header_goes number so_far next text line after first parts header same so_far =
+header_goes number progress next text line after first parts header same so_far =
     let one : first_from number text ≡ first_from (number + 1) after = rw (parts, header) refl in
     let P : PackedSoFar → Type 0 = λ s. IsBegun (number + 1) s after first in
     subst P same (record { none = λ e. ((so_far.none e).0, sym one ∙ (so_far.none e).1); some = so_far.some })
 
 -- once a reference was noted, the first is one
-noted : (so_far : PackedSoFar) (number : ℕ) (text : List ℕ) (first : Option PackedRef) → IsSome so_far.1 → IsSome first → IsBegun number so_far text first
-noted so_far number text first some is = record { none = λ e. absurd (none_some so_far.1 e some); some = λ _. is }
+noted : (progress : PackedSoFar) (number : ℕ) (text : List ℕ) (first : Option PackedRef) → IsSome progress.1 → IsSome first → IsBegun number progress text first
+noted progress number text first some is = record { none = λ e. absurd (none_some progress.1 e some); some = λ _. is }
 
 -- a line was read
-pub begun_goes : (number : ℕ) (so_far next : PackedSoFar) (text line after : List ℕ) (first : Option PackedRef) → parts_of text ≡ (line, (parts_of after).0 ∷ (parts_of after).1)
-    → after_line number so_far line ≡ Some next → IsBegun number so_far text first → IsBegun (number + 1) next after first
+pub begun_goes : (number : ℕ) (progress next : PackedSoFar) (text line after : List ℕ) (first : Option PackedRef) → parts_of text ≡ (line, (parts_of after).0 ∷ (parts_of after).1)
+    → after_line number progress line ≡ Some next → IsBegun number progress text first → IsBegun (number + 1) next after first
 unfolding after_line
-begun_goes number so_far next text line after first parts moved so_far =
+begun_goes number progress next text line after first parts moved so_far =
     let a : Bool = is_header number line in
     let b : Bool = starts_with nat_eq line (codes "^") in
     elim (either a) [
-      | inl header ↦ header_goes number so_far next text line after first parts header (some_is so_far next (sym (rw header refl) ∙ moved)) so_far
+      | inl header ↦ header_goes number progress next text line after first parts header (some_is progress next (sym (rw header refl) ∙ moved)) so_far
       | inr below ↦ elim (either b) [
         | inl peeled ↦
-            let is : with_peeled so_far.0 so_far.1 (name_of (drop 1 line)) ≡ Some next = sym (rw (below, peeled) refl) ∙ moved in
-            let some = peeled_some so_far.0 so_far.1 (name_of (drop 1 line)) next is in
+            let is : with_peeled progress.0 progress.1 (name_of (drop 1 line)) ≡ Some next = sym (rw (below, peeled) refl) ∙ moved in
+            let some = peeled_some progress.0 progress.1 (name_of (drop 1 line)) next is in
             noted next (number + 1) after first some.1 (so_far.some some.0)
         | inr other ↦
-            let is : with_ref so_far (ref_line line) ≡ Some next = sym (rw (below, other) refl) ∙ moved in
-            let some = ref_some so_far (ref_line line) next is in
-            noted next (number + 1) after first some.1 (line_first number so_far text line after first parts so_far (record { below = below; found = some.0 }))
+            let is : with_ref progress (ref_line line) ≡ Some next = sym (rw (below, other) refl) ∙ moved in
+            let some = ref_some progress (ref_line line) next is in
+            noted next (number + 1) after first some.1 (line_first number progress text line after first parts so_far (record { below = below; found = some.0 }))
       ]
     ]

@@ -25,9 +25,9 @@ Moves number (Ok s) after = after ≡ Some (seen s)
 Moves number (Err Memory) after = Unit {0}
 Moves number (Err (BadLine line)) after = (after ≡ None) × (line ≡ number)
 
-abbrev pub GivesSoFar : Result PackedSoFar RefTextError → Result packed.PackedSoFar ℕ → Type 0
-GivesSoFar (Ok s) read = read ≡ Ok (seen s)
-GivesSoFar (Err e) read = Fails e read
+abbrev pub GivesProgress : Result PackedSoFar RefTextError → Result packed.PackedSoFar ℕ → Type 0
+GivesProgress (Ok s) read = read ≡ Ok (seen s)
+GivesProgress (Err e) read = Fails e read
 
 -- What was answered is this.
 abbrev pub Is : Option PackedSoFar → Option packed.PackedSoFar → Type 0

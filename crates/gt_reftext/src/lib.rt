@@ -13,6 +13,7 @@ mod writing;
 
 pub use error::{BadLine, RefTextError};
 pub use laws::{law_loose_files, law_written_is_read};
+pub use lines::line_begin;
 pub use loose::{read_loose, write_loose};
 pub use packed_ref::{PackedList, PackedRef};
 pub use reading::read_packed;

@@ -1,6 +1,7 @@
 ghost use Rattle.std.specs.Prelude.{◌≡◌, ◌==◌, IfOk, OnErr, IsSome, position};
 ghost use Rattle.std.specs.List.{list_all};
 ghost use Rattle.gt_reftext.specs.Lines.{ref_line, good_reference, name_of, is_zero, Cuts};
+ghost use Rattle.gt_reftext.specs.Packed.{line_begin};
 
 use crate::PackedRef;
 use gt_list::NoMemory;
@@ -85,4 +86,23 @@ pub(crate) fn first_line(rest: &[u8]) -> Option<(&[u8], &[u8])>
             Some((line, after))
         }
     }
+}
+
+/// The place where the line of this number, counted from 1, begins, in bytes. Past the last line it is one more than the
+/// text's length. It goes over the lines before it, so it is for a bad line alone.
+pub fn line_begin(bytes: &[u8], line: usize) -> usize
+    ensures { result ≡ line_begin bytes.now line }
+{
+    let mut begin = 0;
+    let mut rest = bytes;
+    'lines: for _ in 1..line {
+        match first_line(rest) {
+            None => return begin + rest.len() + 1,
+            Some((first, after)) => {
+                begin += first.len() + 1;
+                rest = after;
+            }
+        }
+    }
+    begin
 }

@@ -1,17 +1,20 @@
-ghost use Rattle.std.specs.Prelude.{◌≡◌, ◌≢◌, ℕ, List, ◌++◌, IfOk, IfErr, length};
-ghost use Rattle.gt_reftext.specs.Loose.{loose, IsLoose};
+ghost use Rattle.std.specs.Prelude.{◌≡◌, ◌≢◌, ℕ, List, ◌++◌, IfOk, IfErr, MatchResult, Ok, Err, length};
+ghost use Rattle.gt_reftext.specs.Loose.{loose, value_of, IsLoose};
 
 use crate::BadLine;
 use gt_name::Name;
 
 /// Reads a loose file: 40 hex digits in lower case and a line feed, 41 bytes. `BadLine`, with line 1, exactly where the
 /// bytes are no such file.
+#[tactic(auto, unfolding(crate::specs::Loose::value_of))]
 pub fn read_loose(bytes: &[u8]) -> Result<Name, BadLine>
     // What is read is spelled so.
     ensures found { IfOk result (λ name. bytes.now ≡ loose name) }
     ensures good { IfOk result (λ _. IsLoose bytes.now) }
     // What is a loose file is read.
     ensures err { IfErr result (λ e. (e.line ≡ 1) × ¬ IsLoose bytes.now) }
+    // It is the value that the file has.
+    ensures exact { MatchResult result (λ name. value_of bytes.now ≡ Ok name) (λ _. value_of bytes.now ≡ Err 0) }
 {
     let bad = BadLine { line: 1 };
     if bytes.len() != 41 {

@@ -2,7 +2,7 @@ ghost use Rattle.std.specs.Prelude.{◌≡◌, [], IfOk, not};
 ghost use Rattle.std.specs.List.{AllPass};
 ghost use Rattle.gt_reftext.specs.Lines.{is_zero, BeginsWell};
 ghost use Rattle.gt_reftext.specs.Packed.{read_from, packed_of, Ascends};
-ghost use Rattle.gt_reftext.specs.Answers.{Gives, GivesSoFar, OnMemory, IsBegunBy};
+ghost use Rattle.gt_reftext.specs.Answers.{Gives, GivesProgress, OnMemory, IsBegunBy};
 
 use crate::lines::first_line;
 use crate::so_far::{PackedSoFar, after_line, nothing, whole};
@@ -11,22 +11,22 @@ use std::alloc::Global;
 
 /// The references of all lines.
 fn read_lines(alloc: Global, text: &[u8]) -> Result<PackedSoFar, RefTextError>
-    ensures read { GivesSoFar result (read_from ([], None) 1 text.now) }
+    ensures read { GivesProgress result (read_from ([], None) 1 text.now) }
     ensures begun { IsBegunBy result (BeginsWell text.now) }
     ensures memory { OnMemory result (BeginsWell text.now) }
 {
-    let mut so_far = nothing(alloc);
+    let mut progress = nothing(alloc);
     let mut rest = text;
     let mut number = 1;
     'lines: while let Some((line, after)) = first_line(rest) {
-        so_far = after_line(alloc, so_far, number, line)?;
+        progress = after_line(alloc, progress, number, line)?;
         rest = after;
         number += 1;
     }
     if !rest.is_empty() {
         return Err(RefTextError::BadLine { line: number });
     }
-    Ok(so_far)
+    Ok(progress)
 }
 
 fn read_list(alloc: Global, bytes: &[u8]) -> Result<PackedList, RefTextError>
@@ -34,8 +34,8 @@ fn read_list(alloc: Global, bytes: &[u8]) -> Result<PackedList, RefTextError>
     ensures memory { OnMemory result (BeginsWell bytes.now) }
     ensures ascending { IfOk result Ascends }
 {
-    let so_far = read_lines(alloc, bytes)?;
-    let list = whole(alloc, so_far)?;
+    let progress = read_lines(alloc, bytes)?;
+    let list = whole(alloc, progress)?;
     Ok(list)
 }
 

@@ -30,15 +30,15 @@ pub(crate) fn nothing(alloc: Global) -> PackedSoFar
     }
 }
 
-fn has_name(so_far: &PackedSoFar, name: &RefName) -> bool
-    ensures { result ≡ has_name (seen so_far.now) name.now }
+fn has_name(progress: &PackedSoFar, name: &RefName) -> bool
+    ensures { result ≡ has_name (seen progress.now) name.now }
 {
-    if let Some(last) = &so_far.last {
+    if let Some(last) = &progress.last {
         if last.name.bytes() == name.bytes() {
             return true;
         }
     }
-    so_far.done.contains_key(name)
+    progress.done.contains_key(name)
 }
 
 fn put(
@@ -60,19 +60,19 @@ fn put(
 /// One reference more; none where the line has none or its name stands there already.
 fn with_line(
     alloc: Global,
-    so_far: PackedSoFar,
+    progress: PackedSoFar,
     line: &[u8],
 ) -> Result<Option<PackedSoFar>, NoMemory>
-    ensures next { IfOk result (λ next. Is next (with_ref (seen so_far) (ref_line line.now))) }
+    ensures next { IfOk result (λ next. Is next (with_ref (seen progress) (ref_line line.now))) }
     ensures memory { OnErr result (IsSome (ref_line line.now)) }
 {
     match ref_line(alloc, line)? {
         None => Ok(None),
         Some(found) => {
-            if has_name(&so_far, &found.name) {
+            if has_name(&progress, &found.name) {
                 return Ok(None);
             }
-            let done = put(so_far.done, so_far.last)?;
+            let done = put(progress.done, progress.last)?;
             Ok(Some(PackedSoFar {
                 done,
                 last: Some(found),
@@ -82,10 +82,10 @@ fn with_line(
 }
 
 /// A peeled name for the last reference; none where that has one.
-fn with_peeled(so_far: PackedSoFar, digits: &[u8]) -> Option<PackedSoFar>
-    ensures { Is result (with_peeled so_far.done.entries so_far.last (name_of digits.now)) }
+fn with_peeled(progress: PackedSoFar, digits: &[u8]) -> Option<PackedSoFar>
+    ensures { Is result (with_peeled progress.done.entries progress.last (name_of digits.now)) }
 {
-    let PackedSoFar { done, last } = so_far;
+    let PackedSoFar { done, last } = progress;
     let last = last?;
     let peeled = name_of(digits)?;
     if last.peeled.is_some() {
@@ -106,21 +106,21 @@ fn with_peeled(so_far: PackedSoFar, digits: &[u8]) -> Option<PackedSoFar>
 #[tactic(auto, unfolding(crate::specs::Packed::after_line))]
 pub(crate) fn after_line(
     alloc: Global,
-    so_far: PackedSoFar,
+    progress: PackedSoFar,
     number: usize,
     line: &[u8],
 ) -> Result<PackedSoFar, RefTextError>
-    ensures moves { Moves number result (after_line number (seen so_far) line.now) }
+    ensures moves { Moves number result (after_line number (seen progress) line.now) }
     // Memory is wanted only for a line with a reference.
     ensures memory { OnMemory result (IsReference number line.now) }
 {
     if number == 1 && line.starts_with(b"#") {
-        return Ok(so_far);
+        return Ok(progress);
     }
     let next = if line.starts_with(b"^") {
-        with_peeled(so_far, &line[1..])
+        with_peeled(progress, &line[1..])
     } else {
-        with_line(alloc, so_far, line)?
+        with_line(alloc, progress, line)?
     };
     match next {
         Some(next) => Ok(next),
@@ -147,16 +147,16 @@ fn listed(
 }
 
 /// All references, ascending by name.
-pub(crate) fn whole(alloc: Global, so_far: PackedSoFar) -> Result<PackedList, NoMemory>
-    ensures list { IfOk result (λ list. list ≡ map to_ref (put so_far.done.entries so_far.last)) }
+pub(crate) fn whole(alloc: Global, progress: PackedSoFar) -> Result<PackedList, NoMemory>
+    ensures list { IfOk result (λ list. list ≡ map to_ref (put progress.done.entries progress.last)) }
     // The empty list takes no memory.
-    ensures memory { OnErr result (¬ IsNothing (seen so_far)) }
+    ensures memory { OnErr result (¬ IsNothing (seen progress)) }
     ensures ascending { IfOk result Ascends }
 {
-    if so_far.last.is_none() && so_far.done.is_empty() {
+    if progress.last.is_none() && progress.done.is_empty() {
         return Ok(ListOf::new(alloc));
     }
-    let all = put(so_far.done, so_far.last)?;
+    let all = put(progress.done, progress.last)?;
     let list = listed(alloc, all)?;
     Ok(list)
 }

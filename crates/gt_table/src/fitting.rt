@@ -1,7 +1,7 @@
 ghost use Rattle.std.specs.Prelude.{◌≡◌, not};
 ghost use Rattle.std.specs.List.{list_all};
 ghost use Rattle.gt_model.specs.Contents.{fits, finds_old, is_visible, value_or_zero};
-ghost use Rattle.gt_table.specs.Built.{IsBuilt};
+ghost use Rattle.gt_base.specs.Built.{IsBuilt};
 ghost use Rattle.gt_table.specs.Table.{content};
 
 use crate::Table;

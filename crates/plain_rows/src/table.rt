@@ -2,7 +2,7 @@
 ghost use Rattle.std.specs.Prelude.{◌≡◌, ◌≤◌, ◌+◌, None, IsTrue, length};
 ghost use Rattle.gt_model.specs.Contents.{fits as is_fit};
 ghost use Rattle.gt_table.specs.Table.{content};
-ghost use Rattle.gt_table.specs.Built.{is_built, IsBuilt};
+ghost use Rattle.gt_base.specs.Built.{is_built, IsBuilt};
 
 use crate::asked::Asked;
 use crate::shown::{put_list, put_path, put_place};

@@ -2,7 +2,7 @@ use Rattle.std.proofs.Common.{ℕ, ◌∷◌, [], List, IsTrue, Ok, refl, subst}
 use Rattle.gt_model.specs.declared.done.Done.TheVariants.{Restarted}
 use Rattle.gt_model.specs.Histories.{Happening}
 use Rattle.gt_model.specs.Machine.{State}
-use Rattle.gt_base.specs.Histories.{Holds}
+use Rattle.gt_journal.specs.Histories.{Holds}
 use Rattle.gt_part.specs.Shown.{Shown, HasRun}
 use Rattle.gt_prog.specs.Lines.{Line}
 use Rattle.gt_prog.specs.Played.{Goes}

@@ -1,6 +1,6 @@
 use Rattle.std.proofs.Common.{inl, refl, sym, subst}
 use Rattle.gt_disk.specs.Files.{View, now}
-use Rattle.gt_base.specs.Histories.{IsGood}
+use Rattle.gt_journal.specs.Histories.{IsGood}
 use Rattle.gt_prog.proofs.Ends.{untouched}
 use Rattle.gt_prog.proofs.working.work.Goals as goal
 

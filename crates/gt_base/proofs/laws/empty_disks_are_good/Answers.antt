@@ -1,5 +1,0 @@
-use Rattle.gt_base.proofs.Good.{empty_good}
-use Rattle.gt_base.proofs.laws.empty_disks_are_good.Goals as goal
-
-pub returns : goal.returns
-returns c limits = empty_good limits

@@ -1,0 +1,45 @@
+-- Histories over what the files of a partition recover to.
+use Rattle.std.specs.Prelude.{ℕ, List}
+use Rattle.gt_disk.specs.Files.{Files, States, View}
+use Rattle.gt_model.specs.declared.limits.Limits.{Limits}
+use Rattle.gt_model.specs.declared.turn.Turn.{Turn}
+use Rattle.gt_model.specs.Histories.{Happening}
+use Rattle.gt_model.specs.Machine.{State}
+use Rattle.gt_history.specs.Crash as crash
+use Rattle.gt_history.specs.Runs as runs
+use Rattle.gt_journal.specs.Recovery.{recover, Keeps, counters}
+use Rattle.gt_journal.specs.Ledger.{Stored}
+
+-- A disk that may be handed in: whatever a stop leaves recovers to sound contents, of whose entries each says what it needs, by files that are still; gate and turn are still or grown by one byte at most.
+abbrev pub IsGood : Limits → States → Type 0
+IsGood limits = crash.IsGood (recover limits) Keeps counters
+
+-- An image of these states gives this state.
+abbrev pub Gives : Limits → State → States → Files → Type 0
+Gives limits = crash.Gives (recover limits) Keeps counters
+
+abbrev pub GivesThis : Limits → State → States → Type 0
+GivesThis limits = crash.GivesThis (recover limits) Keeps counters
+
+abbrev pub GivesEither : Limits → State → State → States → Type 0
+GivesEither limits = crash.GivesEither (recover limits) Keeps counters
+
+-- Whatever a stop at this moment of a history leaves recovers safely.
+abbrev pub CrashAt : Limits → State → ℕ → (ℕ → States) → List Happening → ℕ → Type 0
+CrashAt limits = crash.CrashAt (recover limits) Keeps counters
+
+-- A history holds on a disk.
+abbrev pub Holds : Limits → State → ℕ → List Happening → View → Type 0
+Holds limits = crash.Holds (recover limits) Keeps counters limits
+
+-- An event leaves the new state in the files, and at each of its moments each image gives the old state or the new one.
+abbrev pub Moves : Limits → State → State → View → View → Type 0
+Moves limits = runs.Moves (recover limits) Keeps counters (Stored limits)
+
+-- What is in doubt is settled: each image gives the old state still.
+abbrev pub Settling : Limits → State → State → View → View → Type 0
+Settling limits = runs.Settling (recover limits) Keeps counters (Stored limits)
+
+-- The history leads from the start to a state that the files have now, and the trail is its events since the last opening.
+abbrev pub IsHistory : Limits → State → ℕ → List Happening → View → List Turn → Type 0
+IsHistory limits = runs.IsHistory (recover limits) Keeps counters (Stored limits) limits

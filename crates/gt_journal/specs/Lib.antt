@@ -1,0 +1,4 @@
+pub mod Recovery
+pub mod Ledger
+pub mod Histories
+pub mod Loading

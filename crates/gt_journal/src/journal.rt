@@ -1,0 +1,179 @@
+ghost use Rattle.std.specs.Prelude.{◌≡◌, ◌⊎◌, ◌≤◌, ◌<◌, ◌+◌, ◌++◌, ◌∷◌, [], length, List, true, IsTrue, IfOk, IfErr, OnOk, OnErr, is_some, None, Err};
+ghost use Rattle.std.specs.Option.{ForSome};
+ghost use Rattle.std.proofs.Props.{props};
+ghost use Rattle.gt_disk.specs.Files as files;
+ghost use Rattle.gt_disk.specs.Files.{now};
+ghost use Rattle.gt_disk.specs.Kinds.{gate_file};
+ghost use Rattle.gt_disk.specs.Moments.{Since, Narrows};
+ghost use Rattle.gt_log.specs.Log.{content_length};
+ghost use Rattle.gt_log.specs.declared.mount_cause.MountCause.{MountCause as Cause};
+ghost use Rattle.gt_model.specs.declared.limits.Limits.{Limits as Most};
+ghost use Rattle.gt_model.specs.Contents.{nothing, after_all, fits};
+ghost use Rattle.gt_entry.specs.Fits.{HasSpelling};
+ghost use Rattle.gt_model.specs.Machine.{Pin, SettledEntry, opening, unapplied, with_entry, with_pins};
+ghost use Rattle.gt_sound.specs.Sound.{IsSoundState};
+ghost use Rattle.gt_base.specs.Built.{IsBuilt};
+ghost use Rattle.gt_table.specs.Table.{HasRoomFor};
+ghost use Rattle.gt_table.proofs.Rooms.{room_for};
+ghost use Rattle.gt_journal.specs.Ledger.{Stored, state_of, doubt_after};
+ghost use Rattle.gt_journal.specs.Histories.{IsGood, Moves, Settling};
+ghost use Rattle.gt_journal.specs.Loading.{Opens, HasCause, HasAddCause};
+ghost use Rattle.gt_journal.specs.Recovery.{recover};
+
+use crate::loading::load;
+use crate::spelling::add_entry;
+use gt_disk::{Disk, Failed};
+use gt_log::{Log, LogError, MountCause};
+use gt_model::{Entry, Limits};
+use gt_table::Table;
+use std::alloc::Global;
+use std::marker::Model;
+
+/// The log of a disk, its entries and contents in memory, and the entry in doubt, which fits and for which there is room.
+#[derive(Drop)]
+pub struct Journal {
+    log: Log,
+    table: Table,
+    doubt: Option<Entry>,
+    ghost counts: { log.len ≡ length table.log },
+    ghost doubts: { log.in_doubt ≡ is_some doubt },
+    ghost built: { ForSome doubt IsBuilt },
+    ghost next: { ForSome doubt (λ entry. entry.position ≡ length table.log + 1) },
+    ghost fit: { ForSome doubt (λ entry. IsTrue (fits (after_all nothing table.log) entry)) },
+    ghost room: { ForSome doubt (λ entry. HasRoomFor entry table) } by { Prim.hlevel (props, room_for) },
+}
+
+impl Model for Journal {
+    ghost use Rattle.gt_journal.specs.Ledger.{Ledger};
+
+    ghost Value = { Ledger };
+
+    ghost view = { λ j. record { log = j.table.log; doubt = j.doubt } };
+}
+
+impl Journal {
+    /// Opens what the disk's files recover to. `Damaged` names the first damage: a gate that is longer than the limit, then the
+    /// first entry that is absent, isn't spelled, or doesn't fit. `DeviceFault` comes only of a fault of the disk.
+    pub fn open<D: Disk>(
+        alloc: Global,
+        limits: &Limits,
+        disk: &mut D,
+    ) -> Result<Journal, MountCause>
+        // Over a disk that tells it opens exactly what the files recover to, or names the first damage.
+        ensures answer { IsTrue D.tells → Opens (recover limits.now (D.view disk.old).reads) result }
+        ensures settled { IfOk result (λ j. j.doubt ≡ None) }
+        ensures cause { HasCause (D.fault_count disk.old) (D.fault_count disk.new) result }
+        ensures gate { IsTrue D.tells → limits.now.positions < content_length ((D.view disk.old).reads gate_file)
+            → (result ≡ Err (Cause.Damaged gate_file limits.now.positions)) ⊎ (result ≡ Err Cause.DeviceFault) }
+        ensures later { (D.view disk.old).clock ≤ (D.view disk.new).clock }
+        ensures reads { IsTrue D.tells → (D.view disk.new).reads ≡ (D.view disk.old).reads }
+
+        // At no moment can a stop leave what it couldn't leave before.
+        ensures moments { IsTrue D.tells → Narrows (D.view disk.old) (D.view disk.new) }
+
+        // A disk that may be handed in may be handed in again at each moment, and has what is opened.
+        ensures good { IsTrue D.tells → IsGood limits.now (now (D.view disk.old)) → Since (IsGood limits.now) (D.view disk.old) (D.view disk.new) }
+        ensures good_end { IsTrue D.tells → IsGood limits.now (now (D.view disk.old)) → IsGood limits.now (now (D.view disk.new)) }
+        ensures stored { IsTrue D.tells → IsGood limits.now (now (D.view disk.old)) → IfOk result (λ j. Stored limits.now (opening (unapplied j.log)) (now (D.view disk.new)) × IsSoundState (opening (unapplied j.log))) }
+    {
+        let Ok(log) = Log::mount(disk) else {
+            return Err(MountCause::DeviceFault);
+        };
+        match load(alloc, limits, &log, disk) {
+            Ok(table) => Ok(Journal {
+                log,
+                table,
+                doubt: None,
+            }),
+            Err(cause) => Err(cause),
+        }
+    }
+
+    /// The entries, and what they have made at each position. An entry in doubt isn't among them.
+    pub fn table(&self) -> &Table
+        ensures { result.now.log ≡ self.now.log }
+    {
+        &self.table
+    }
+
+    /// Finds out whether the entry in doubt is in the log. It takes no memory. Where nothing is in doubt the disk isn't asked.
+    pub fn settle<D: Disk>(&mut self, disk: &mut D) -> Result<(), Failed>
+        // For whatever is live, the machine's state is settled.
+        ensures settles { OnOk result ((pins : List Pin) → SettledEntry true (state_of self.old pins) (state_of self.new pins)) }
+        ensures in_doubt { OnErr result (IsTrue (is_some self.old.doubt)) }
+        ensures longer { length self.old.log ≤ length self.new.log }
+        ensures settled { OnOk result (self.new.doubt ≡ None) }
+        ensures same { OnErr result (self.new ≡ self.old) }
+        ensures idle { self.old.doubt ≡ None → disk.new ≡ disk.old }
+        ensures cause { files.HasCause (D.fault_count disk.old) (D.fault_count disk.new) result }
+        ensures later { (D.view disk.old).clock ≤ (D.view disk.new).clock }
+        ensures counted { D.call_count disk.new ≤ D.call_count disk.old + 2 }
+        ensures moves { IsTrue D.tells → (limits : Most) (before after : List Pin) → Settling limits (state_of self.old before) (state_of self.new after) (D.view disk.old) (D.view disk.new) }
+    {
+        match self.doubt.take() {
+            None => Ok(()),
+            Some(entry) => match self.log.settle(disk) {
+                Ok(true) => {
+                    self.table.add(entry);
+                    Ok(())
+                }
+                Ok(false) => {
+                    drop(entry);
+                    Ok(())
+                }
+                Err(failed) => {
+                    self.doubt = Some(entry);
+                    Err(failed)
+                }
+            },
+        }
+    }
+
+    /// Adds an entry that fits, where nothing is in doubt. All memory is taken before the first call of the disk. `Untouched`
+    /// comes of a fault before the entry may be in the log, `Unsure` of one from then on, and then it is in doubt.
+    pub fn add<D: Disk>(
+        &mut self,
+        alloc: Global,
+        limits: &Limits,
+        disk: &mut D,
+        entry: Entry,
+    ) -> Result<(), LogError>
+        requires settled { self.old.doubt ≡ None }
+        requires next { entry.position ≡ length self.old.log + 1 }
+        requires built { IsBuilt entry }
+        requires spelled { HasSpelling entry }
+        requires fit { IsTrue (fits (after_all nothing self.old.log) entry) }
+        requires room { length self.old.log < limits.now.positions }
+        ensures ok { OnOk result ((self.new.log ≡ self.old.log ++ entry ∷ []) × (self.new.doubt ≡ None)) }
+        ensures err { IfErr result (λ e. (self.new.log ≡ self.old.log) × (self.new.doubt ≡ doubt_after e entry)) }
+        ensures longer { length self.old.log ≤ length self.new.log }
+        ensures cause { HasAddCause (D.fault_count disk.old) (D.fault_count disk.new) result }
+        ensures later { (D.view disk.old).clock ≤ (D.view disk.new).clock }
+        ensures counted { D.call_count disk.new ≤ D.call_count disk.old + 4 }
+        // For whatever is live, the machine's state has the entry in its log.
+        ensures added { OnOk result ((before after : List Pin) → state_of self.new after ≡ with_pins (with_entry (state_of self.old before) entry) after) }
+        ensures moves { IsTrue D.tells → (before after : List Pin) → Moves limits.now (state_of self.old before) (state_of self.new after) (D.view disk.old) (D.view disk.new) }
+    {
+        if let Err(_) = self.table.prepare(alloc, &entry) {
+            return Err(LogError::Memory);
+        }
+        match add_entry(alloc, &mut self.log, disk, &entry) {
+            Ok(_) => {
+                self.table.add(entry);
+                Ok(())
+            }
+            Err(LogError::Untouched) => {
+                drop(entry);
+                Err(LogError::Untouched)
+            }
+            Err(LogError::Unsure) => {
+                self.doubt = Some(entry);
+                Err(LogError::Unsure)
+            }
+            Err(LogError::Memory) => {
+                drop(entry);
+                Err(LogError::Memory)
+            }
+        }
+    }
+}

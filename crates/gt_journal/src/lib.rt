@@ -1,0 +1,11 @@
+//! What the files of a partition recover to: its log is loaded, or the first damage is named; it is kept in memory with what
+//! it has made and with an entry that is in doubt, and goes on by one entry after the other.
+#![tactic(auto)]
+
+mod journal;
+mod laws;
+mod loading;
+mod spelling;
+
+pub use journal::Journal;
+pub use laws::{empty_disks_are_good, placed_records_are_held, stops_leave_good_disks};

@@ -1,0 +1,4 @@
+pub mod Programs
+pub mod Framing
+pub mod Counters
+pub mod Apart
