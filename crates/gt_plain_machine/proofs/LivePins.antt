@@ -1,5 +1,5 @@
 -- What is live under a number, and the least number that isn't live.
-use Rattle.std.proofs.Common.{◌≡◌, ℕ, ◌+◌, ◌-◌, ◌<◌, ◌≤◌, nat_eq, zero, suc, Bool, true, false, cond, ◌||◌, List, [], ◌∷◌, length, find, Option, Some, None, refl, sym, ap, ◌∙◌, arith}
+use Rattle.std.proofs.Common.{◌≡◌, ℕ, ◌+◌, ◌-◌, ◌<◌, ◌≤◌, nat_eq, suc, Bool, true, false, cond, ◌||◌, List, [], ◌∷◌, length, find, Some, None, sym, ap, ◌∙◌, arith}
 use Rattle.gt_model.specs.Machine.{Pin, is_live, free_from, free_number}
 
 -- a number that is live is found

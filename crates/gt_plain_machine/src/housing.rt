@@ -99,11 +99,7 @@ impl PlainState {
     }
 
     /// What a step of a job comes to.
-    pub(crate) fn house_step(
-        &self,
-        number: u8,
-        count: u32,
-    ) -> Result<PlainEffect, NoMemory>
+    pub(crate) fn house_step(&self, number: u8, count: u32) -> Result<PlainEffect, NoMemory>
         requires { is_live (as_state self.now).pins number ≡ true }
         ensures { let s = as_state self.now in IfOk result (λ e. as_effect e ≡ (if is_ready_job (pin_of s number) then answers (Step true) s.pins else works number count)) }
     {

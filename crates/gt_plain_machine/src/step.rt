@@ -53,11 +53,7 @@ impl PlainState {
             Event::Link { path, pool } => self.link(alloc, limits, path, pool),
             Event::Begin { path, seen } => self.begin(alloc, limits, path, *seen),
             Event::GetRef { pin, name } => self.get_ref(alloc, *pin, name),
-            Event::ListRefs { pin, prefix } => self.list_refs(
-                alloc,
-                *pin,
-                prefix.as_slice(),
-            ),
+            Event::ListRefs { pin, prefix } => self.list_refs(alloc, *pin, prefix.as_slice()),
             Event::Cat { pin, name } => self.cat(alloc, *pin, name),
             Event::Commit { pin, refs, records } => self.commit(alloc, limits, *pin, refs, records),
             Event::Abort { pin } => self.abort(alloc, *pin),
