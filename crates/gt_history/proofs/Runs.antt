@@ -14,9 +14,9 @@ use Rattle.gt_model.specs.Histories.{Happening, event, opened, last_tick, last_s
 use Rattle.gt_model.proofs.Openings.{opening_order}
 use Rattle.gt_sound.specs.Sound.{IsSoundState, IsKnown}
 use Rattle.gt_sound.proofs.Steps.{step_on_any_sound, may_recover_sound}
-use Rattle.gt_history.specs.Crash.{IsSteady, Gives, GivesThis, GivesEither, IsGood, Run, CrashAt, Holds}
-use Rattle.gt_history.specs.Runs.{KeepsPast, Moves, IsHistory}
-use Rattle.gt_history.proofs.Safe.{same_ok, safe, safe_after, run_steady, run_past, run_sound, run_in_order}
+use Rattle.gt_history.specs.Crash.{IsSteady, Gives, GivesThis, GivesEither, IsGood, CrashAt, Holds}
+use Rattle.gt_history.specs.Runs.{KeepsPast, Moves, Run, IsHistory}
+use Rattle.gt_history.proofs.Safe.{same_ok, is_run, run_ascends, safe, safe_after, run_steady, run_past, run_sound, run_in_order}
 
 reverse-push : (trail : List Turn) (turn : Turn) → turn ∷ reverse trail ≡ reverse (trail ++ turn ∷ [])
 reverse-push trail turn = sym (reverse-append trail (turn ∷ []))
@@ -189,7 +189,8 @@ module _ {B : Type 0} (recover : Files → Result Recovered B) (Keeps : Recovere
 
       pub holds_now : Holds recover Keeps counters limits start begin history v
       holds_now = record {
-        run = going.run;
+        run = is_run recover Keeps counters limits start begin v.at history going.run;
+        ascends = run_ascends recover Keeps counters limits start begin v.at history going.run;
         past = omega (arith, going.clock);
         crash = λ m ge le. run_crash m ge (omega (arith, le, going.clock));
         good = λ m ge le. run_good m ge (omega (arith, le, going.clock));
@@ -205,7 +206,8 @@ module _ {B : Type 0} (recover : Files → Result Recovered B) (Keeps : Recovere
         let past : Run recover Keeps counters limits start begin w.at history = run_past recover Keeps counters limits start begin v.at w.at history (λ k le. narrows.past k (omega (arith, le, u_is))) going.run in
         let still_there : (k : ℕ) → k ≤ v.clock → w.at k ≡ v.at k = narrows.past in
         record {
-          run = past;
+          run = is_run recover Keeps counters limits start begin w.at history past;
+          ascends = run_ascends recover Keeps counters limits start begin w.at history past;
           past = omega (arith, u_is, narrows.later);
           crash = λ m ge le. elim (cases_lt v.clock m) [
             | inl lt ↦ (λ image is.

@@ -11,7 +11,8 @@ use Rattle.gt_model.specs.Histories.{Happening, tick, state, acks, last_tick, la
 use Rattle.gt_model.proofs.Runs.{run_acked, run_order}
 use Rattle.gt_sound.specs.Sound.{IsSoundState}
 use Rattle.gt_sound.proofs.Steps.{may_recover_sound}
-use Rattle.gt_history.specs.Crash.{IsSafe, AreSteady, Gives, GivesThis, GivesEither, Run}
+use Rattle.gt_history.specs.Crash.{IsSafe, Ascends, AreSteady, Gives, GivesThis, GivesEither}
+use Rattle.gt_history.specs.Runs.{Run}
 use Rattle.gt_history.proofs.Parts.{recovered_on, recovered_long}
 
 pub lt_true : (m n : ℕ) → m < n → nat_lt m n ≡ true
@@ -41,6 +42,11 @@ module _ {B : Type 0} (recover : Files → Result Recovered B) (Keeps : Recovere
   pub is_run : (limits : Limits) (start : State) (begin : ℕ) (at : ℕ → States) (history : List Happening) → RunOf limits start begin at history → IsRun limits start history
   is_run limits start begin at [] run = run.1
   is_run limits start begin at (h ∷ older) run = (is_run limits start begin at older run.0, run.1)
+
+  -- its moments
+  pub run_ascends : (limits : Limits) (start : State) (begin : ℕ) (at : ℕ → States) (history : List Happening) → RunOf limits start begin at history → Ascends begin history
+  run_ascends limits start begin at [] run = tt
+  run_ascends limits start begin at (h ∷ older) run = (run_ascends limits start begin at older run.0, run.2.later)
 
   pub run_in_order : (limits : Limits) (start : State) (begin : ℕ) (at : ℕ → States) (history : List Happening) → RunOf limits start begin at history → IsInOrder (last_state start history)
   run_in_order limits start begin at history run = run_order limits start history (is_run limits start begin at history run)

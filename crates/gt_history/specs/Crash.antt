@@ -1,12 +1,12 @@
 -- What a stop at any moment of a history leaves.
-use Rattle.std.specs.Prelude.{◌≡◌, ◌⊎◌, ℕ, ◌+◌, ◌<◌, ◌≤◌, List, [], ◌∷◌, length, Result, Ok}
+use Rattle.std.specs.Prelude.{◌≡◌, ◌⊎◌, ℕ, ◌+◌, ◌≤◌, List, [], ◌∷◌, length, Result, Ok}
 use Rattle.std.specs.List.{AllByRecursion}
 use Rattle.gt_disk.specs.declared.file_id.FileId.{FileId}
 use Rattle.gt_disk.specs.Files.{FileState, still, grown, loose, Files, States, View, now, IsImage}
 use Rattle.gt_model.specs.declared.limits.Limits.{Limits}
 use Rattle.gt_model.specs.Contents.{IsLegal}
-use Rattle.gt_model.specs.Machine.{State, Recovered, MayRecover, IsInOrder, opening, front, line, line_at, content_at}
-use Rattle.gt_model.specs.Histories.{Happening, tick, state, last_tick, last_state, acked, around, Happens}
+use Rattle.gt_model.specs.Machine.{State, Recovered, MayRecover, opening, front, line, line_at, content_at}
+use Rattle.gt_model.specs.Histories.{Happening, tick, last_tick, last_state, acked, around, IsRun}
 use Rattle.gt_sound.specs.Sound.{IsSoundState}
 
 -- ---- what is left
@@ -29,6 +29,11 @@ pub record IsSafe (acknowledged : ℕ) (before after : State) (r : Recovered) : 
   pub one : IsOn before (opening r) ⊎ IsOn after (opening r)
   pub legal : IsLegal r.base (r.applied + 1) r.log
   pub sound : IsSoundState (opening r)
+
+-- Each of these happenings ends no earlier than the one before it, the first no earlier than this moment.
+abbrev pub Ascends : ℕ → List Happening → Type 0
+Ascends begin [] = Unit {0}
+Ascends begin (h ∷ older) = Ascends begin older × (last_tick begin older ≤ tick h)
 
 -- ---- over a way to recover
 
@@ -56,28 +61,16 @@ module _ {B : Type 0} (recover : Files → Result Recovered B) (Keeps : Recovere
     pub steady : AreSteady states
     pub each : (image : Files) → IsImage states image → (r : Recovered) × (recover image ≡ Ok r) × Keeps r states × IsSoundState (opening r)
 
-  -- what a stop leaves at the moments of a happening, after which all contents are sound
-  pub record Leaves (at : ℕ → States) (u t : ℕ) (old new : State) : Type 0 where
-    pub later : u ≤ t
-    pub during : (m : ℕ) → u < m → m ≤ t → GivesEither old new (at m)
-    pub end : GivesThis new (at t)
-    pub sound : IsSoundState new
-
-  -- these happenings follow each other from a start that is in order and sound
-  abbrev pub Run : Limits → State → ℕ → (ℕ → States) → List Happening → Type 0
-  Run limits start begin at [] = GivesThis start (at begin) × IsInOrder start × IsSoundState start
-  Run limits start begin at (h ∷ older) =
-      Run limits start begin at older × Happens limits (last_state start older) h × Leaves at (last_tick begin older) (tick h) (last_state start older) (state h)
-
   -- Whatever a stop at this moment leaves recovers.
   abbrev pub CrashAt : State → ℕ → (ℕ → States) → List Happening → ℕ → Type 0
   CrashAt start begin at history m =
       (image : Files) → IsImage (at m) image → (r : Recovered) × (recover image ≡ Ok r)
       × IsSafe (acked start history m) (around start begin history m).0 (around start begin history m).1 r
 
-  -- A history holds on a disk: it is a run that ends by now; at each moment until now the disk may be handed in, and whatever a stop leaves recovers safely; and now the disk has its last state.
+  -- A history holds on a disk: it is a run of the machine whose moments ascend and end by now; at each moment until now the disk may be handed in, and whatever a stop leaves recovers safely; and now the disk has its last state.
   pub record Holds (limits : Limits) (start : State) (begin : ℕ) (history : List Happening) (view : View) : Type 0 where
-    pub run : Run limits start begin view.at history
+    pub run : IsRun limits start history
+    pub ascends : Ascends begin history
     pub past : last_tick begin history ≤ view.clock
     pub crash : (m : ℕ) → begin ≤ m → m ≤ view.clock → CrashAt start begin view.at history m
     pub good : (m : ℕ) → begin ≤ m → m ≤ view.clock → IsGood (view.at m)

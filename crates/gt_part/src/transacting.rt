@@ -24,7 +24,6 @@ impl<D: Disk + Drop> Partition<D> {
     /// content at the front lacks the path; `DeviceFault` only of a fault of the disk.
     pub fn begin(
         &mut self,
-        alloc: Global,
         who: Who,
         path: &RepoPath,
         seen: u64,
@@ -34,7 +33,6 @@ impl<D: Disk + Drop> Partition<D> {
         ensures called { Called D.tells D.view D.fault_count D.call_count who (Asked.Begin path.now seen) result self.old self.new }
         ensures gives { GivesPin result pass.new (free_number (pins_of self.old)) }
     {
-        let _ = alloc;
         let Ok(path) = path.clone() else {
             return Err(Refusal::Memory);
         };
@@ -63,12 +61,11 @@ impl<D: Disk + Drop> Partition<D> {
     }
 
     /// What a reference names at the position of a transaction, or none.
-    pub fn get_ref(&mut self, alloc: Global, who: Who, pin: &Pin, name: &RefName) -> Answer
+    pub fn get_ref(&mut self, who: Who, pin: &Pin, name: &RefName) -> Answer
         requires { is_live (pins_of self.old) pin.now ≡ true }
         ensures called { Called D.tells D.view D.fault_count D.call_count who (Asked.GetRef pin.now name.now) result self.old self.new }
         ensures pins { pins_of self.new ≡ pins_of self.old }
     {
-        let _ = alloc;
         let Ok(copy) = name.clone() else {
             return Err(Refusal::Memory);
         };

@@ -35,7 +35,7 @@ use Rattle.gt_prog.specs.declared.playing.PlayCause.{PlayCause}
 use Rattle.gt_prog.specs.declared.playing.PlayCause.TheVariants.{Write, Device, Damaged, Memory}
 use Rattle.gt_prog.specs.Played.{Goes, DidOne, IsWhole, Played, PlayedWhole, IsAtRestart, EndsAt, own_faults, PlayedPart, Went}
 use Rattle.gt_prog.specs.AnyDisk.{footing, running_of, ActedOne, AreActed}
-use Rattle.gt_prog.specs.Replay.{IsOpened, Worked, WorkedPart, Replayed, ReplayedPart}
+use Rattle.gt_prog.specs.Replay.{IsOpened, Worked, Replayed, ReplayedPart}
 use Rattle.gt_prog.proofs.Framing.{lines_over, end_over, lines_then, course_line}
 use Rattle.gt_prog.proofs.Acknowledged.{begins, still_named, lines_named, end_named, answers_kept}
 use Rattle.gt_prog.proofs.Calls.{told_as, requests_went, give_up_went}
@@ -322,7 +322,7 @@ module _ {D : Type 0} (view : D → View) (limits : Limits) (old : View) (p : Sh
   lines_as : (stand : Stand) → AreLines p.limits lines (from_here new_sessions (memory p)) stand → AreLines limits lines (from_here new_sessions (opening r)) stand
   lines_as stand did = subst (λ (s : State). AreLines limits lines (from_here new_sessions s) stand) state_is (subst (λ (l : Limits). AreLines l lines (from_here new_sessions (memory p)) stand) limits_is did)
 
-  pub worked : (q : Shown D) → Continues view (memory p) (view p.disk).clock [] (IsWhole p.limits lines (memory p) (memory q)) p q → Worked limits old (view q.disk) lines
+  pub worked : (q : Shown D) → Continues view (memory p) (view p.disk).clock [] (IsWhole p.limits lines (memory p) (memory q)) p q → Worked limits None old (view q.disk) lines
   worked q c =
       let did = lines_as c.this.stand c.this.did in
       let end : Past = past_of (memory q) c.later in
@@ -343,8 +343,8 @@ module _ {D : Type 0} (view : D → View) (limits : Limits) (old : View) (p : Sh
         keeps = answers_kept limits (opening r) (view p.disk).clock end (view q.disk) lines holds ended.0 (still_named limits (opening r) (front c.this.stand.past.state) (front end.state) lines ended.1 named.2);
       }
 
-  pub worked_part : (end : View) → Went view (memory p) (view p.disk).clock [] p end lines → WorkedPart limits old end lines
-  worked_part end went =
+  pub worked_part : (cause : PlayCause) (end : View) → Went view (memory p) (view p.disk).clock [] p end lines → Worked limits (Some cause) old end lines
+  worked_part cause end went =
       let did = lines_as went.stand went.did in
       let holds = holds_as view limits p end went.stand.past.happened r state_is limits_is went.holds in
       let named = lines_named limits (opening r) lines (from_here new_sessions (opening r)) went.stand did (begins r) in
@@ -355,6 +355,8 @@ module _ {D : Type 0} (view : D → View) (limits : Limits) (old : View) (p : Sh
         stand = went.stand;
         did = did;
         undamaged = whole_lines limits lines (from_here new_sessions (opening r)) went.stand did;
+        end = went.stand.past;
+        ends = refl;
         holds = holds;
         keeps = answers_kept limits (opening r) (view p.disk).clock went.stand.past end lines holds named.0 named.2;
       }
@@ -382,7 +384,7 @@ module _ {D : Type 0} (tells : Bool) (view : D → View) (fault_count : D → �
     opens = λ told. ((mounts told).0, (mounts told).1);
     worked = λ told good.
         let m = mounts told in
-        subst (λ (x : D). Worked limits (view disk) (view x) played.lines) (sym same)
+        subst (λ (x : D). Worked limits None (view disk) (view x) played.lines) (sym same)
         (worked view limits (view disk) p played.lines m.0 m.1 m.2 kept (narrows told) q (played.goes told (memory p) (view p.disk).clock [] (run told good)));
   }
 
@@ -404,7 +406,7 @@ module _ {D : Type 0} (tells : Bool) (view : D → View) (fault_count : D → �
     opens = λ told. ((mounts told).0, (mounts told).1);
     worked = λ told good.
         let m = mounts told in
-        worked_part view limits (view disk) p (played.whole ++ played.part) m.0 m.1 m.2 kept (narrows told) (view end) (played.went told (memory p) (view p.disk).clock [] (run told good));
+        worked_part view limits (view disk) p (played.whole ++ played.part) m.0 m.1 m.2 kept (narrows told) cause (view end) (played.went told (memory p) (view p.disk).clock [] (run told good));
   }
 
   -- over a disk that may be handed in nothing is found damaged later either

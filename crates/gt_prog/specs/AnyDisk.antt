@@ -41,8 +41,8 @@ abbrev pub opened_over : Limits → Recovered → Footing
 opened_over limits r = footing new_sessions (running_in limits (opening r))
 
 -- The machine of the one partition makes a step, of whose answer the same is kept; what is answered is the machine's answer, but for an object.
-abbrev pub Acts : ℕ → Who → Event → Result Done Refusal → Option ℕ → Running → Running → Type 0
-Acts partition who e answer given old new = (partition ≡ 1) × (given ≡ given_by old.state.pins e answer) × (new.limits ≡ old.limits) × Acted old.limits old.state e answer (λ s. new.state ≡ s)
+abbrev pub LocalActed : ℕ → Who → Event → Result Done Refusal → Option ℕ → Running → Running → Type 0
+LocalActed partition who e answer given old new = (partition ≡ 1) × (given ≡ given_by old.state.pins e answer) × (new.limits ≡ old.limits) × Acted old.limits old.state e answer (λ s. new.state ≡ s)
 
 -- Everything was mounted again: the memory is that of what some files recover to.
 pub record Reopens (line : Line) (old new : Footing) : Type 0 where
@@ -54,7 +54,7 @@ pub record Reopens (line : Line) (old new : Footing) : Type 0 where
 
 abbrev pub ActsBy : Form → Line → Footing → Footing → Type 0
 ActsBy Restart line old new = Reopens line old new
-ActsBy form line old new = Requests Acts Mapped line.number line.request.session line.request.form line.answer old.sessions new.sessions old.running new.running
+ActsBy form line old new = Requests LocalActed Mapped line.number line.request.session line.request.form line.answer old.sessions new.sessions old.running new.running
 
 -- This request of the line of this number was done, and this is its answer.
 abbrev pub ActedOne : {D : Type 0} → ℕ → Request → Result Done Refusal → List Session → List Session → Shown D → Shown D → Type 0
@@ -77,4 +77,4 @@ pub record ActedWhole (limits : Limits) (lines : List Line) : Type 0 where
   pub stand : Footing
   pub did : AreActed lines (opened_over limits recovered) stand
   pub end : Running
-  pub ends : GiveUp Acts stand.sessions stand.running end
+  pub ends : GiveUp LocalActed stand.sessions stand.running end

@@ -19,7 +19,7 @@ use Rattle.gt_session.specs.Sessions.{Session}
 use Rattle.gt_prog.specs.declared.playing.PlayCause.{PlayCause}
 use Rattle.gt_prog.specs.declared.playing.PlayCause.TheVariants.{Write, Device, Damaged, Memory}
 use Rattle.gt_session.specs.Together.{GiveUp}
-use Rattle.gt_prog.specs.AnyDisk.{Footing, footing, running_of, Acts, AreActed}
+use Rattle.gt_prog.specs.AnyDisk.{Footing, footing, running_of, LocalActed, AreActed}
 use Rattle.gt_prog.specs.Lines.{Line, Stand, past_of, standing, from_here, new_sessions, printed, numbered, asked_by, Counted, AreLines, IsEnd}
 
 -- These lines were done, and led from the first sessions to the others: whatever the history before, they are what came then.
@@ -53,7 +53,7 @@ pub record PlayedWhole {D : Type 0} (tells : Bool) (view : D → View) (fault_co
   pub asked : map asked_by lines ≡ numbered 1 requests
   pub bytes : AppendsAll written out (flat_map printed lines)
   pub counted : Counted 0 (fault_count old.disk) (fault_count new.disk) lines
-  pub acted : (stand : Footing) × AreActed lines (footing new_sessions (running_of old)) stand × GiveUp Acts stand.sessions stand.running (running_of new)
+  pub acted : (stand : Footing) × AreActed lines (footing new_sessions (running_of old)) stand × GiveUp LocalActed stand.sessions stand.running (running_of new)
   pub goes : IsTrue tells → (start : State) (begin : ℕ) (history : List Happening) → HasRun view start begin history old
       → Continues view start begin history (IsWhole old.limits lines (memory old) (memory new)) old new
 

@@ -1,5 +1,5 @@
 -- A whole run: the lines of a script over a disk, what was written, and what the disk has come to.
-use Rattle.std.specs.Prelude.{◌≡◌, ℕ, ◌≤◌, Bool, false, IsTrue, List, ◌++◌, length, map, Option, Ok}
+use Rattle.std.specs.Prelude.{◌≡◌, ℕ, ◌≤◌, Bool, false, IsTrue, List, ◌++◌, length, map, Option, Some, None, Ok}
 use Rattle.std.specs.List.{flat_map, AllByRecursion}
 use Rattle.gt_disk.specs.Files.{Files, View, now, IsImage}
 use Rattle.gt_model.specs.declared.limits.Limits.{Limits}
@@ -27,8 +27,13 @@ pub record IsOpened (limits : Limits) (old new : View) (start : Recovered) (begi
 abbrev pub KeepsAnswers : Limits → View → List Line → Type 0
 KeepsAnswers limits new lines = (image : Files) → IsImage (now new) image → (r : Recovered) × (recover limits image ≡ Ok r) × AllByRecursion (λ line. position line.answer ≤ front (opening r)) lines
 
--- The work on a disk, to the end of the input: it is opened, new sessions do the lines, none of which finds damage, and then each gives up what it has open. The disk has what both made.
-pub record Worked (limits : Limits) (old new : View) (lines : List Line) : Type 0 where
+-- Where the lines are all of the input, each session gives up what it has open. A cause ends the work with the lines.
+abbrev pub EndsWith : Limits → Option PlayCause → Stand → Past → Type 0
+EndsWith limits None stand end = IsEnd limits stand end
+EndsWith limits (Some cause) stand end = end ≡ stand.past
+
+-- The work on a disk, to the end of the input or until a cause ended it: the disk is opened, and new sessions do the lines, none of which finds damage. It has what all that made.
+pub record Worked (limits : Limits) (cause : Option PlayCause) (old new : View) (lines : List Line) : Type 0 where
   pub start : Recovered
   pub begin : ℕ
   pub opened : IsOpened limits old new start begin
@@ -36,19 +41,8 @@ pub record Worked (limits : Limits) (old new : View) (lines : List Line) : Type 
   pub did : AreLines limits lines (from_here new_sessions (opening start)) stand
   pub undamaged : AllByRecursion (λ line. names_damage line.answer ≡ false) lines
   pub end : Past
-  pub ends : IsEnd limits stand end
+  pub ends : EndsWith limits cause stand end
   pub holds : Holds limits (opening start) begin end.happened new
-  pub keeps : KeepsAnswers limits new lines
-
--- The work on a disk that was cut short: it is opened, and new sessions do the lines. The disk has what they made.
-pub record WorkedPart (limits : Limits) (old new : View) (lines : List Line) : Type 0 where
-  pub start : Recovered
-  pub begin : ℕ
-  pub opened : IsOpened limits old new start begin
-  pub stand : Stand
-  pub did : AreLines limits lines (from_here new_sessions (opening start)) stand
-  pub undamaged : AllByRecursion (λ line. names_damage line.answer ≡ false) lines
-  pub holds : Holds limits (opening start) begin stand.past.happened new
   pub keeps : KeepsAnswers limits new lines
 
 -- The files recover: no damage is passed over.
@@ -64,7 +58,7 @@ pub record Replayed (tells : Bool) (limits : Limits) (requests : List Request) (
   pub sure : Stays before after → faulty lines ≡ 0
   pub acted : ActedWhole limits lines
   pub opens : IsTrue tells → Opens limits old
-  pub worked : IsTrue tells → IsGood limits (now old) → Worked limits old new lines
+  pub worked : IsTrue tells → IsGood limits (now old) → Worked limits None old new lines
 
 -- Some first requests were done, until this cause ended the work. The answers of all but at most the last were written whole, and of that one's a front; want of memory cuts no line.
 pub record ReplayedPart (tells : Bool) (limits : Limits) (cause : PlayCause) (requests : List Request) (old new : View) (before after : ℕ) (written out : Option (List ℕ)) : Type 0 where
@@ -82,4 +76,4 @@ pub record ReplayedPart (tells : Bool) (limits : Limits) (cause : PlayCause) (re
   pub sure : Stays before after → faulty (whole ++ part) ≡ 0
   pub acted : ActedLines limits (whole ++ part)
   pub opens : IsTrue tells → Opens limits old
-  pub worked : IsTrue tells → IsGood limits (now old) → WorkedPart limits old new (whole ++ part)
+  pub worked : IsTrue tells → IsGood limits (now old) → Worked limits (Some cause) old new (whole ++ part)

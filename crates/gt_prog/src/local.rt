@@ -10,6 +10,9 @@ use gt_stage::Stage;
 use std::alloc::Global;
 use std::marker::Model;
 
+/// The one partition, and its disk.
+pub(crate) const FIRST: u8 = 1;
+
 /// A partition in the program's own hands, as the sessions see it.
 #[derive(Drop)]
 pub(crate) struct Local<D: Disk + Drop> {
@@ -39,7 +42,7 @@ impl<D: Disk + Drop> Parts for Local<D> {
     ghost mapped = { λ who path event found old new. Mapped who path event found old new };
 
     fn route(&mut self, alloc: Global, who: Who, path: &RepoPath) -> Result<Option<u8>, Refusal> {
-        Ok(Some(1))
+        Ok(Some(FIRST))
     }
 
     fn assign(
@@ -49,7 +52,7 @@ impl<D: Disk + Drop> Parts for Local<D> {
         path: &RepoPath,
         kin: Option<u8>,
     ) -> Result<u8, Refusal> {
-        Ok(1)
+        Ok(FIRST)
     }
 
     fn create(
@@ -76,7 +79,7 @@ impl<D: Disk + Drop> Parts for Local<D> {
         seen: u64,
         pass: &mut Option<Pin>,
     ) -> Answer {
-        self.partition.begin(alloc, who, path, seen, pass)
+        self.partition.begin(who, path, seen, pass)
     }
 
     fn get_ref(
@@ -87,7 +90,7 @@ impl<D: Disk + Drop> Parts for Local<D> {
         pass: &mut Pin,
         name: &RefName,
     ) -> Answer {
-        self.partition.get_ref(alloc, who, &*pass, name)
+        self.partition.get_ref(who, &*pass, name)
     }
 
     fn list_refs(

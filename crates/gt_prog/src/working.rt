@@ -7,6 +7,7 @@ ghost use Rattle.gt_journal.specs.Histories.{IsGood};
 ghost use Rattle.gt_prog.specs.Script.{HasSession, not_built};
 ghost use Rattle.gt_prog.specs.Statuses.{RoseEither, WorkEnds, status_of_mount, status_of_play};
 
+use crate::local::FIRST;
 use crate::playing::{PlayCause, play};
 use crate::status::Status;
 use gt_disk::Disk;
@@ -16,9 +17,6 @@ use gt_outside::{Host, Sink};
 use gt_part::Partition;
 use gt_script::Request;
 use std::alloc::Global;
-
-/// The one partition, and its disk.
-const FIRST: u8 = 1;
 
 /// Takes the disk of the partition, does the requests over it, and gives it back.
 pub(crate) fn work<H: Host, K: Sink>(
