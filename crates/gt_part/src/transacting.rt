@@ -22,13 +22,7 @@ impl<D: Disk + Drop> Partition<D> {
     /// Begins a transaction that reads the front, and gives its pin. `Behind` comes exactly where what was seen is later
     /// than the front, then `PinsFull` exactly where as many are live as the limit allows, then `NoRepository` exactly where the
     /// content at the front lacks the path; `DeviceFault` only of a fault of the disk.
-    pub fn begin(
-        &mut self,
-        who: Who,
-        path: &RepoPath,
-        seen: u64,
-        pass: &mut Option<Pin>,
-    ) -> Answer
+    pub fn begin(&mut self, who: Who, path: &RepoPath, seen: u64, pass: &mut Option<Pin>) -> Answer
         requires { pass.old ≡ None }
         ensures called { Called D.tells D.view D.fault_count D.call_count who (Asked.Begin path.now seen) result self.old self.new }
         ensures gives { GivesPin result pass.new (free_number (pins_of self.old)) }
