@@ -9,8 +9,8 @@ ghost use Rattle.gt_part.specs.Mounts.{Mounts, HasMountCause};
 ghost use Rattle.gt_part.specs.Shown.{memory, Counts, HasRun, Continues, OneOpening, pins_of, front_of};
 
 use gt_act::PartitionState;
-use gt_journal::Journal;
 use gt_disk::Disk;
+use gt_journal::Journal;
 use gt_list::ReservedVec;
 use gt_log::{MountCause, MountError};
 use gt_model::{Limits, Trail};
