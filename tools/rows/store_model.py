@@ -6,8 +6,11 @@ makes, so it tells the answers of a run in which calls fail, and what each stop 
 import hashlib
 import struct
 
+from formats.bases import LOOSE_KIND, MANIFEST, PACK, PACKED, Bad, loose_of, manifest_of, pack_of, packed_of
+from formats.bases import USUAL as EPOCHS
+
 ZERO = "0" * 40
-GATE = (1, 0)
+GATE, TURN = (1, 0), (2, 0)
 
 
 def hex_name(record):
@@ -247,23 +250,63 @@ class Partition:
         self.mount()
 
     def mount(self):
-        self.doubt, self.live, self.contents = None, 0, [{}]
+        self.doubt, self.live = None, 0
         try:
             self.disk.sync(GATE)
             count = self.disk.len(GATE) or 0
             if count > self.limits[0]:
                 raise Ends(damaged(GATE, self.limits[0]))
-            for position in range(1, count + 1):
+            self.base, content = self.load(count)
+            self.contents = [content]
+            for position in range(self.base + 1, count + 1):
                 self.read(position)
         except Failed:
             raise Ends(DISK_FAULT) from None
 
-    def read(self, position):
-        key = (4, position)
+    def load(self, gate):
+        """The applied position of the epoch, and the content that the files of its manifest have."""
+        self.disk.sync(TURN)
+        epoch = self.disk.len(TURN) or 0
+        if epoch > EPOCHS:
+            raise Ends(damaged(TURN, EPOCHS))
+        if epoch == 0:
+            return 0, {}
+        key = (MANIFEST, epoch)
+        found, applied, _, repos = self.parsed(key, manifest_of)
+        if found != epoch:
+            raise Ends(damaged(key, 4))
+        if applied > gate:
+            raise Ends(damaged(key, 12))
+        return applied, {repo[0].decode(): self.load_repo(repo) for repo in repos}
+
+    def load_repo(self, repo):
+        """The first pack that has a name counts, a loose value hides a packed one, and 40 zeros are none."""
+        _, _, _, packs, packed, loose = repo
+        objects, refs = {}, {}
+        for number in packs:
+            for name, at, length in self.parsed((PACK, number), pack_of):
+                objects.setdefault(name.hex(), ((PACK, number), at, length))
+        if packed:
+            refs = {name.decode(): value.decode() for name, value, _ in self.parsed((PACKED, packed), packed_of)}
+        for name, number in loose:
+            refs[name.decode()] = self.parsed((LOOSE_KIND, number), loose_of).decode()
+        return Repo({name: value for name, value in refs.items() if value != ZERO}, objects)
+
+    def whole(self, key):
         length = self.disk.len(key)
         if length is None:
             raise Ends(damaged(key, 0))
-        entry = SPELLED.get(self.disk.read_at(key, 0, length))
+        return self.disk.read_at(key, 0, length)
+
+    def parsed(self, key, reader):
+        try:
+            return reader(self.whole(key))
+        except Bad as bad:
+            raise Ends(damaged(key, bad.args[0])) from None
+
+    def read(self, position):
+        key = (4, position)
+        entry = SPELLED.get(self.whole(key))
         assert entry, "the model reads whole entries alone"
         if entry.position != position:
             raise Ends(damaged(key, 4))
@@ -272,7 +315,7 @@ class Partition:
         self.contents.append(after(self.contents[-1], entry))
 
     def front(self):
-        return len(self.contents) - 1
+        return self.base + len(self.contents) - 1
 
     def settle(self):
         if self.doubt:
@@ -376,7 +419,7 @@ class Partition:
 
     def repo_at(self, passed):
         path, position = passed
-        return self.contents[position][path]
+        return self.contents[position - self.base][path]
 
     def cat(self, passed, name):
         place = self.repo_at(passed).objects.get(name)

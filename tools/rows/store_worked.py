@@ -250,6 +250,46 @@ MORE = {
     "nothing": [],
 }
 
+# Over a store of epoch 1 at position 2, whose repository has a tag and its object.
+BASED = [
+    ("1 create a.git", "exists"),
+    ("1 begin a.git", "ok begin 2"),
+    (f"1 get {TAG}", f"ref {HELLO}"),
+    ("1 list", f"refs 1 {HELLO} {TAG}"),
+    (f"1 cat {HELLO}", f"object blob {HELLO_WORD}"),
+    (f"1 cat {TEST}", f"absent {TEST}"),
+    (f"1 put blob {HELLO_WORD}", f"name {HELLO}"),
+    (f"1 put blob {TEST_WORD}", f"name {TEST}"),
+    (f"1 set {TAG} {ZERO} {TEST}", "ok set"),
+    ("1 commit", f"conflict {TAG} expected {ZERO} actual {HELLO}"),
+    ("1 begin a.git", "ok begin 2"),
+    ("2 begin a.git", "ok begin 2"),
+    (f"1 set refs/tags/t/u {ZERO} {HELLO}", "ok set"),
+    ("1 commit", "directory refs/tags/t/u with refs/tags/t"),
+    ("1 begin a.git", "ok begin 2"),
+    # The object of the base isn't added again.
+    (f"1 put blob {HELLO_WORD}", f"name {HELLO}"),
+    (f"1 put blob {TEST_WORD}", f"name {TEST}"),
+    (f"1 set {TAG} {HELLO} {TEST}", "ok set"),
+    (f"1 set {MAIN} {ZERO} {HELLO}", "ok set"),
+    ("1 commit", "ok commit 3"),
+    (f"2 get {TAG}", f"ref {HELLO}"),
+    (f"2 cat {TEST}", f"absent {TEST}"),
+    ("2 commit", "ok done 2"),
+    ("1 restart", "ok restart"),
+    ("1 begin a.git", "ok begin 3"),
+    ("1 list", f"refs 2 {HELLO} {MAIN} {TEST} {TAG}"),
+    (f"1 cat {HELLO}", f"object blob {HELLO_WORD}"),
+    (f"1 cat {TEST}", f"object blob {TEST_WORD}"),
+    (f"1 set {TAG} {TEST} {ZERO}", "ok set"),
+    ("1 commit", "ok commit 4"),
+    ("1 delete a.git", "ok delete 5"),
+    ("1 create a.git", "ok create 6"),
+    ("1 begin a.git", "ok begin 6"),
+    ("1 list", "refs 0"),
+    (f"1 cat {HELLO}", f"absent {HELLO}"),
+]
+
 # Reads what any of these leaves: the references and each object, and by a creation the front.
 READING = ["1 begin a.git", "1 list"] + [
     f"1 cat {name}" for name in (HELLO, TEST, EMPTY, TREE, COMMIT, ROOTLESS)
@@ -266,20 +306,20 @@ COMMITS_IN = STAGED + ["unsure 6", "notopen", "ok begin 6", f"ref {HELLO}", f"na
 COMMITS_OUT = STAGED + ["unsure 6", "notopen", "ok begin 5", "noref", f"name {HELLO}", "ok set", "ok commit 6"]
 COMMITS_OPEN = STAGED + ["devicefault", "ok commit 6", "ok begin 6", f"ref {HELLO}", f"name {HELLO}", "ok set", "ok commit 7"]
 
-# The mounting makes the calls 0 to 11; the commit's are the entry's write 12 and its sync 13, the gate's append 14 and its
-# sync 15.
+# The mounting makes the calls 0 to 13: a sync and a length of the gate, the same of turn, and two for each entry. The commit's
+# are the entry's write 14 and its sync 15, the gate's append 16 and its sync 17.
 COMMIT_FAULTS = [
-    ({12: 0}, COMMITS_OPEN), ({12: None}, COMMITS_OPEN), ({13: 0}, COMMITS_OPEN),
-    ({14: 0}, COMMITS_OUT), ({14: 1}, COMMITS_IN), ({15: 0}, COMMITS_IN),
+    ({14: 0}, COMMITS_OPEN), ({14: None}, COMMITS_OPEN), ({15: 0}, COMMITS_OPEN),
+    ({16: 0}, COMMITS_OUT), ({16: 1}, COMMITS_IN), ({17: 0}, COMMITS_IN),
 ]
 
 # A creation, a deletion and a beginning, each tried twice. To settle takes a sync of the gate and its length.
 TWICE = ["1 create f.git"] * 2 + ["1 delete f.git"] * 2 + ["1 begin a.git"] * 2
 TWICE_FAULTS = [
-    ({14: 1}, ["unsure 6", "exists", "ok delete 7", "norepository", "ok begin 7", "alreadyopen"]),
-    ({14: 1, 15: 0}, ["unsure 6", "devicefault", "ok delete 7", "norepository", "ok begin 7", "alreadyopen"]),
-    ({14: 0, 16: 0}, ["unsure 6", "devicefault", "norepository", "norepository", "ok begin 5", "alreadyopen"]),
-    ({14: 1, 15: 0, 16: 0, 17: 0, 18: 0}, ["unsure 6"] + ["devicefault"] * 4 + ["ok begin 6"]),
+    ({16: 1}, ["unsure 6", "exists", "ok delete 7", "norepository", "ok begin 7", "alreadyopen"]),
+    ({16: 1, 17: 0}, ["unsure 6", "devicefault", "ok delete 7", "norepository", "ok begin 7", "alreadyopen"]),
+    ({16: 0, 18: 0}, ["unsure 6", "devicefault", "norepository", "norepository", "ok begin 5", "alreadyopen"]),
+    ({16: 1, 17: 0, 18: 0, 19: 0, 20: 0}, ["unsure 6"] + ["devicefault"] * 4 + ["ok begin 6"]),
 ]
 
 # Inputs that are no script, or none that is done yet, and what standard error says of each.

@@ -3,9 +3,12 @@
 
 mod hosts;
 mod rows;
+mod threads;
 
 use gt_real::FolderDisk;
 use std::io;
+use std::sync::Wait;
+use std::thread::Threads;
 
 /// The folder stands in the one that the program runs in.
 pub(crate) const FOLDER: &str = "disk";
@@ -13,14 +16,18 @@ pub(crate) const FOLDER: &str = "disk";
 fn main(rt: HostRuntime) -> io::Result<()> {
     let folder = String::from_str(rt.alloc(), FOLDER)?;
     match FolderDisk::open(rt.clone()?, folder) {
-        Ok(mut disk) => over(&rt, &mut disk),
+        Ok(mut disk) => over(&rt, &rt, &mut disk),
         Err(_) => println!(rt; "not opened"),
     }
 }
 
-fn over(rt: &HostRuntime, disk: &mut FolderDisk<HostRuntime>) -> io::Result<()> {
+fn over<T: Threads + Wait + Sync>(
+    rt: &HostRuntime,
+    threads: &T,
+    disk: &mut FolderDisk<HostRuntime>,
+) -> io::Result<()> {
     for line in rt.lines(rt.alloc()) {
-        rows::row(rt, disk, line?.as_str())?;
+        rows::row(rt, threads, disk, line?.as_str())?;
     }
     Ok(())
 }

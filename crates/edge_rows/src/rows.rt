@@ -1,17 +1,21 @@
 //! Which call a row is. Each has a small function, since a long one is dear to prove.
-use crate::{FOLDER, hosts};
+use crate::{FOLDER, hosts, threads};
 use gt_disk::{Disk, FileId};
 use gt_real::FolderDisk;
+use std::sync::Wait;
+use std::thread::Threads;
 use std::{fs, io};
 
-pub(crate) fn row(
+pub(crate) fn row<T: Threads + Wait + Sync>(
     rt: &HostRuntime,
+    threads: &T,
     disk: &mut FolderDisk<HostRuntime>,
     row: &str,
 ) -> io::Result<()> {
     match row.split_once(' ') {
         Some(("list", file)) => println!(rt; "{:?}", disk.list(Some(file_of(file)))),
         Some(("stray", name)) => stray_row(rt, name),
+        Some(("threads", folder)) => threads::threads_row(rt, threads, folder),
         Some(("take", number)) => hosts::take_row(rt, number_of(number)),
         Some((call, words)) => file_row(rt, disk, call, words),
         None => bare_row(rt, disk, row),

@@ -18,19 +18,15 @@ use Rattle.gt_model.specs.declared.refusal.Refusal.TheVariants.{Memory, DeviceFa
 use Rattle.gt_model.specs.Machine.{State, Pin, Effect, Fails, effect, reading, pin_of, released, is_live_as, is_transaction, is_empty, committed, answers, front, content, is_full, next_entry, with_entry, with_pins, refuses, adds, unless, is_asked, settles, settles_turn, after_fault, RunsOut, Ends, Acts, SettledEntry, SettledTurn, Step}
 use Rattle.gt_model.specs.Contents.{has_repo, least_member}
 use Rattle.gt_history.proofs.Moves as moves
-use Rattle.gt_journal.specs.Ledger.{Ledger, StoredBy, Stored, state_of}
-use Rattle.gt_journal.specs.Recovery.{recover, Keeps, counters}
+use Rattle.gt_disk.specs.Kinds.{pack_file}
+use Rattle.gt_journal.specs.Ledger.{Ledger, Stored, KeepsPacks, state_of}
+use Rattle.gt_base.specs.Recovery.{recover, Keeps, counters}
 use Rattle.gt_journal.specs.Histories.{Moves, Settling}
-use Rattle.gt_journal.proofs.Images.{stored_of, by_stored}
 use Rattle.gt_act.specs.declared.ended.Ended.{Ended}
 use Rattle.gt_act.specs.declared.ended.Ended.TheVariants as ended
 use Rattle.gt_act.specs.Adding.{AddsChange}
 use Rattle.gt_act.specs.Causes.{settling_calls}
 use Rattle.gt_act.specs.Ended.{answer_of}
-
--- the position of the last entry
-pub front_is : (l : Ledger) (pins : List Pin) → front (state_of l pins) ≡ length l.log
-front_is l pins = let is : 0 + length l.log ≡ length l.log = omega arith in is
 
 module _ (limits : Limits) (event : Event) where
   pub then_acts : (old mid new : State) (answer : Result Done Refusal) → IsTrue (is_asked old event) → settles event ≡ true → settles_turn event ≡ false → SettledEntry true old mid → Acts limits mid event answer new → Step limits old event answer new
@@ -64,25 +60,29 @@ settle_calls (Some e) before after idle most = most
 module _ (limits : Limits) where
   -- what was in doubt is settled, or stays so
   pub settling_moves : (old mid : State) (v w : View) → Settling limits old mid v w → Moves limits old mid v w
-  settling_moves old mid v w settling = moves.settling_still (recover limits) Keeps counters (Stored limits) old mid mid v w settling (λ stored. stored)
+  settling_moves old mid v w settling = (moves.settling_still (recover limits) (Keeps limits) counters (Stored limits) old mid mid v w settling.0 (λ stored. stored), settling.1)
+
+  packs_join : (u v w : View) → KeepsPacks u v → KeepsPacks v w → KeepsPacks u w
+  packs_join u v w one two n = two n ∙ one n
 
   pub settled_moves : (old mid new : State) (u v w : View) → SettledEntry true old mid → mid.doubt ≡ None → Settling limits old mid u v → Moves limits mid new v w → Moves limits old new u w
-  settled_moves old mid new u v w settled clear settling moved = moves.settled_moves (recover limits) Keeps counters (Stored limits) old mid new u v w settled clear settling moved
+  settled_moves old mid new u v w settled clear settling moved =
+      (moves.settled_moves (recover limits) (Keeps limits) counters (Stored limits) old mid new u v w settled clear settling.0 moved.0, λ stored. packs_join u v w (settling.1 stored) (moved.1 (settling.0 stored).0))
 
   -- the same log and doubt, whatever is live
-  pub same_files : (l m : Ledger) (pins after : List Pin) (states : States) → m.log ≡ l.log → m.doubt ≡ l.doubt → Stored limits (state_of l pins) states → Stored limits (state_of m after) states
-  same_files l m pins after states log_is doubt_is stored =
-      stored_of limits m after states (subst (λ (x : Ledger). StoredBy limits x states) (λ i. record { log = sym log_is i; doubt = sym doubt_is i }) (by_stored limits l pins states stored))
+  pub same_files : (l m : Ledger) (pins after : List Pin) (states : States) → m ≡ l → Stored limits (state_of l pins) states → Stored limits (state_of m after) states
+  same_files l m pins after states same stored = subst (λ (x : Ledger). Stored limits (state_of x after) states) (sym same) (record { applied = stored.applied; turning = stored.turning; by = stored.by })
 
-  pub settling_pins : (old : State) (l m : Ledger) (pins after : List Pin) (v w : View) → m.log ≡ l.log → m.doubt ≡ l.doubt → Settling limits old (state_of l pins) v w → Moves limits old (state_of m after) v w
-  settling_pins old l m pins after v w log_is doubt_is settling =
-      moves.settling_still (recover limits) Keeps counters (Stored limits) old (state_of l pins) (state_of m after) v w settling (same_files l m pins after (now w) log_is doubt_is)
+  pub settling_pins : (old : State) (l m : Ledger) (pins after : List Pin) (v w : View) → m ≡ l → Settling limits old (state_of l pins) v w → Moves limits old (state_of m after) v w
+  settling_pins old l m pins after v w same settling =
+      (moves.settling_still (recover limits) (Keeps limits) counters (Stored limits) old (state_of l pins) (state_of m after) v w settling.0 (same_files l m pins after (now w) same), settling.1)
 
-  pub moves_pins : (l m : Ledger) (pins after : List Pin) (v : View) → m.log ≡ l.log → m.doubt ≡ l.doubt → Moves limits (state_of l pins) (state_of m after) v v
-  moves_pins l m pins after v log_is doubt_is = moves.moves_still (recover limits) Keeps counters (Stored limits) (state_of l pins) (state_of m after) v (same_files l m pins after (now v) log_is doubt_is)
+  pub moves_pins : (l m : Ledger) (pins after : List Pin) (v : View) → m ≡ l → Moves limits (state_of l pins) (state_of m after) v v
+  moves_pins l m pins after v same = (moves.moves_still (recover limits) (Keeps limits) counters (Stored limits) (state_of l pins) (state_of m after) v (same_files l m pins after (now v) same), λ stored n. refl)
 
   pub moves_quiet : (s : State) (v w : View) → Quiet v w → Moves limits s s v w
-  moves_quiet s v w quiet = moves.moves_quiet (recover limits) Keeps counters (Stored limits) s s v w quiet (λ stored. stored)
+  moves_quiet s v w quiet =
+      (moves.moves_quiet (recover limits) (Keeps limits) counters (Stored limits) s s v w quiet (λ stored. stored), λ stored n. ap (λ (s : States). s (pack_file n)) (ap (λ (k : ℕ). w.at k) quiet.clock ∙ ap (λ (a : ℕ → States). a v.clock) quiet.at))
 
 -- ---- entries
 
@@ -156,13 +156,13 @@ nothing_staged refs records empty none = λ i. is_empty (empty i) (none i)
 
 -- a transaction that has staged nothing ends
 pub finish_steps : (limits : Limits) (l m : Ledger) (pins after : List Pin) (number : ℕ) (refs : List RefUpdate) (records : List Added) (answer : Result Done Refusal) → is_live_as is_transaction pins number ≡ true → is_empty refs records ≡ true
-    → answer ≡ Ok (Finished (pin_of (state_of l pins) number).position) → m.log ≡ l.log → m.doubt ≡ l.doubt → after ≡ released pins number → Step limits (state_of l pins) (Commit number refs records) answer (state_of m after)
-finish_steps limits l m pins after number refs records answer live none said log_is doubt_is gone =
+    → answer ≡ Ok (Finished (pin_of (state_of l pins) number).position) → m ≡ l → after ≡ released pins number → Step limits (state_of l pins) (Commit number refs records) answer (state_of m after)
+finish_steps limits l m pins after number refs records answer live none said same gone =
     let s : State = state_of l pins in
     at_once limits (Commit number refs records) s (state_of m after) answer live (ap not none) refl (inl (by (is_empty refs records) none))
   where
     by : (b : Bool) → b ≡ true → Ends (cond b (answers (Finished (pin_of (state_of l pins) number).position) (released pins number)) (committed limits (state_of l pins) number (record { refs = refs; records = records }) (verdict (content (state_of l pins)) (pin_of (state_of l pins) number).path (record { refs = refs; records = records })))) (state_of l pins) answer (state_of m after)
-    by true is = (said, λ i. state_of (record { log = log_is i; doubt = doubt_is i }) (gone i))
+    by true is = (said, λ i. state_of (same i) (gone i))
     by false is = absurd (cc is)
 
 pub some_staged : (refs : List RefUpdate) (records : List Added) → (is_empty refs records ≡ false) → settles (Commit 0 refs records) ≡ true

@@ -12,7 +12,7 @@ use Rattle.gt_model.specs.Histories.{kept}
 use Rattle.gt_model.specs.Machine.{State, StepOnAny, pin_of}
 use Rattle.gt_objset.specs.declared.place.Place.{Place}
 use Rattle.gt_places.specs.Reading.{piece, IsRecordOf}
-use Rattle.gt_table.specs.Table.{place_at}
+use Rattle.gt_table.specs.Table.{Past, place_at}
 use Rattle.gt_act.specs.Causes.{IsLike}
 
 -- What is answered, if it isn't a refusal, is a record that has the name that was asked for.
@@ -35,13 +35,13 @@ HeldSo None holds = ⊥
 HeldSo (Some place) holds = holds place
 
 -- The disk holds a record of that name at the object's place.
-abbrev pub CatNamed : State → ℕ → List ℕ → Files → Type 0
-CatNamed s pin name files = HeldSo (place_at s.log (pin_of s pin).position (pin_of s pin).path name) (λ place. sha1 (piece (files place.file) place) ≡ name)
+abbrev pub CatNamed : Past → State → ℕ → List ℕ → Files → Type 0
+CatNamed past s pin name files = HeldSo (place_at past (pin_of s pin).position (pin_of s pin).path name) (λ place. sha1 (piece (files place.file) place) ≡ name)
 
 -- The disk holds this at the object's place: what is answered, or no record of that name.
-abbrev pub CatGives : State → ℕ → List ℕ → Files → Result Done Refusal → Type 0
-CatGives s pin name files (Ok (Object whole)) = HeldSo (place_at s.log (pin_of s pin).position (pin_of s pin).path name) (λ place. whole ≡ piece (files place.file) place)
-CatGives s pin name files (Ok done) = Unit {0}
-CatGives s pin name files (Err (Damaged file at)) =
-    HeldSo (place_at s.log (pin_of s pin).position (pin_of s pin).path name) (λ place. (file ≡ place.file) × (at ≡ place.at) × (IsRecordOf name (piece (files place.file) place) → ⊥))
-CatGives s pin name files (Err other) = Unit {0}
+abbrev pub CatGives : Past → State → ℕ → List ℕ → Files → Result Done Refusal → Type 0
+CatGives past s pin name files (Ok (Object whole)) = HeldSo (place_at past (pin_of s pin).position (pin_of s pin).path name) (λ place. whole ≡ piece (files place.file) place)
+CatGives past s pin name files (Ok done) = Unit {0}
+CatGives past s pin name files (Err (Damaged file at)) =
+    HeldSo (place_at past (pin_of s pin).position (pin_of s pin).path name) (λ place. (file ≡ place.file) × (at ≡ place.at) × (IsRecordOf name (piece (files place.file) place) → ⊥))
+CatGives past s pin name files (Err other) = Unit {0}

@@ -16,8 +16,7 @@ pub fn abort(limits: &Limits, state: &mut PartitionState, pin: &Pin) -> Ended
     ensures step { Step limits.now (state_of state.old) (Event.Abort pin.now) (answer_of result) (state_of state.new) }
     ensures always { result ≡ End.Aborted }
     ensures live { state.new.live ≡ released state.old.live pin.now }
-    ensures log { state.new.journal.log ≡ state.old.journal.log }
-    ensures doubt { state.new.journal.doubt ≡ state.old.journal.doubt }
+    ensures journal { state.new.journal ≡ state.old.journal }
 {
     state.live.release(pin);
     Ended::Aborted

@@ -1,6 +1,8 @@
+ghost use Rattle.gt_journal.specs.Ledger.{front_of};
+ghost use Rattle.gt_table.specs.Table as table;
 ghost use Rattle.std.specs.Prelude.{◌≡◌, ◌≤◌, ◌+◌, IsTrue, IfErr, OnOk, None, Err, true, length};
 ghost use Rattle.gt_entry.specs.Fits.{HasChangeSpelling};
-ghost use Rattle.gt_model.specs.Contents.{nothing, after_all, change_fits};
+ghost use Rattle.gt_model.specs.Contents.{change_fits};
 ghost use Rattle.gt_base.specs.Built.{IsBuilt, is_built};
 ghost use Rattle.gt_journal.specs.Histories.{Moves};
 ghost use Rattle.gt_write.specs.Checking.{IsGoodWrite};
@@ -31,13 +33,14 @@ pub(crate) fn add_change<D: Disk>(
     requires settled { state.old.journal.doubt ≡ None }
     requires built { is_built change ≡ true }
     requires spelled { HasChangeSpelling change }
-    requires fit { IsTrue (change_fits (after_all nothing state.old.journal.log) path.now change) }
-    ensures full { limits.now.positions ≤ length state.old.journal.log → result ≡ Err End.LogFull }
+    requires fit { IsTrue (change_fits (table.content state.old.journal.past) path.now change) }
+    ensures full { limits.now.positions ≤ front_of state.old.journal → result ≡ Err End.LogFull }
     ensures adds { AddsChange limits.now (state_of state.old) path.now change result (state_of state.new) }
     ensures pins { state.new.live ≡ state.old.live }
     ensures sure { OnOk result (D.fault_count disk.new ≡ D.fault_count disk.old) }
     ensures cause { IfErr result (λ ended. CallCause (D.fault_count disk.old) (D.fault_count disk.new) (answer_of ended)) }
     ensures counted { D.call_count disk.new ≤ D.call_count disk.old + 4 }
+    ensures repos { state.new.journal.past.repos ≡ state.old.journal.past.repos }
     ensures moves { IsTrue D.tells → Moves limits.now (state_of state.old) (state_of state.new) (D.view disk.old) (D.view disk.new) }
 {
     let front = state.journal.table().front();
@@ -65,12 +68,13 @@ fn add_entry<D: Disk>(
 ) -> Result<u64, Ended>
     requires settled { state.old.journal.doubt ≡ None }
     requires built { IsBuilt entry }
-    requires good { IsGoodWrite limits.now (length state.old.journal.log) (after_all nothing state.old.journal.log) entry }
+    requires good { IsGoodWrite limits.now (front_of state.old.journal) (table.content state.old.journal.past) entry }
     ensures adds { AddsEntry (state_of state.old) entry result (state_of state.new) }
     ensures pins { state.new.live ≡ state.old.live }
     ensures sure { OnOk result (D.fault_count disk.new ≡ D.fault_count disk.old) }
     ensures cause { IfErr result (λ ended. CallCause (D.fault_count disk.old) (D.fault_count disk.new) (answer_of ended)) }
     ensures counted { D.call_count disk.new ≤ D.call_count disk.old + 4 }
+    ensures repos { state.new.journal.past.repos ≡ state.old.journal.past.repos }
     ensures moves { IsTrue D.tells → Moves limits.now (state_of state.old) (state_of state.new) (D.view disk.old) (D.view disk.new) }
 {
     let position = entry.position;

@@ -1,3 +1,4 @@
+ghost use Rattle.gt_journal.specs.Ledger.{front_of};
 ghost use Rattle.std.specs.Prelude.{◌≡◌, ◌≤◌, ◌<◌, ◌+◌, length, false, IsTrue, None};
 ghost use Rattle.gt_model.specs.declared.event.Event.{Event};
 ghost use Rattle.gt_model.specs.Machine.{Step, Acts, is_faulty, free_number};
@@ -28,6 +29,7 @@ pub fn begin<D: Disk>(
     ensures gives { GivesPin (answer_of result.0) result.1 (free_number state.old.live) }
     ensures cause { CallCause (D.fault_count disk.old) (D.fault_count disk.new) (answer_of result.0) }
     ensures counted { D.call_count disk.new ≤ D.call_count disk.old + settling_calls state.old.journal.doubt }
+    ensures repos { state.new.journal.past.repos ≡ state.old.journal.past.repos }
     ensures moves { IsTrue D.tells → Moves limits.now (state_of state.old) (state_of state.new) (D.view disk.old) (D.view disk.new) }
 {
     if let Err(Failed) = state.journal.settle(disk) {
@@ -47,10 +49,9 @@ fn begin_settled(
     ensures acts { Acts limits.now (state_of state.old) (Event.Begin path.now seen) (answer_of result.0) (state_of state.new) }
     ensures one { length state.new.live ≤ length state.old.live + 1 }
     ensures gives { GivesPin (answer_of result.0) result.1 (free_number state.old.live) }
-    ensures log { state.new.journal.log ≡ state.old.journal.log }
-    ensures doubt { state.new.journal.doubt ≡ state.old.journal.doubt }
-    ensures behind { length state.old.journal.log < seen → result.0 ≡ End.Behind seen (length state.old.journal.log) }
-    ensures full { seen ≤ length state.old.journal.log → limits.now.pins ≤ length state.old.live → result.0 ≡ End.PinsFull }
+    ensures journal { state.new.journal ≡ state.old.journal }
+    ensures behind { front_of state.old.journal < seen → result.0 ≡ End.Behind seen (front_of state.old.journal) }
+    ensures full { seen ≤ front_of state.old.journal → limits.now.pins ≤ length state.old.live → result.0 ≡ End.PinsFull }
     ensures sure { is_faulty (answer_of result.0) ≡ false }
 {
     let front = state.journal.table().front();

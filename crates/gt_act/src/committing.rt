@@ -1,3 +1,5 @@
+ghost use Rattle.gt_journal.specs.Ledger.{front_of};
+ghost use Rattle.gt_table.specs.Table as table;
 ghost use Rattle.std.specs.Prelude.{◌≡◌, ◌≤◌, ◌⊎◌, ◌+◌, length, true, false, IsTrue, None, Err};
 ghost use Rattle.gt_model.specs.declared.event.Event.{Event};
 ghost use Rattle.gt_model.specs.declared.done.Done.TheVariants.{Committed};
@@ -8,7 +10,6 @@ ghost use Rattle.gt_act.specs.Causes.{CallCause, settling_calls};
 ghost use Rattle.gt_act.specs.Ended.{answer_of, IsKeptOf};
 ghost use Rattle.gt_act.specs.declared.ended.Ended.{Ended as End};
 ghost use Rattle.gt_journal.specs.Histories.{Moves};
-ghost use Rattle.gt_model.specs.Contents.{nothing, after_all};
 ghost use Rattle.gt_write.specs.declared.checked.Checked.{Checked as Came};
 ghost use Rattle.gt_write.specs.Checking.{IsChecked, IsGoodWrite};
 ghost use Rattle.gt_base.specs.Built.{IsBuilt};
@@ -39,6 +40,7 @@ pub fn commit<D: Disk>(
     ensures fewer { length state.new.live ≤ length state.old.live }
     ensures cause { CallCause (D.fault_count disk.old) (D.fault_count disk.new) result.answer }
     ensures counted { D.call_count disk.new ≤ D.call_count disk.old + settling_calls state.old.journal.doubt + 4 }
+    ensures repos { state.new.journal.past.repos ≡ state.old.journal.past.repos }
     ensures moves { IsTrue D.tells → Moves limits.now (state_of state.old) (state_of state.new) (D.view disk.old) (D.view disk.new) }
 {
     // a law, which does nothing
@@ -57,8 +59,7 @@ pub fn commit<D: Disk>(
 fn finish(state: &mut PartitionState, pin: &Pin) -> Ended
     requires { is_live state.old.live pin.now ≡ true }
     ensures answer { result ≡ End.Finished (pin_of (state_of state.old) pin.now).position }
-    ensures log { state.new.journal.log ≡ state.old.journal.log }
-    ensures doubt { state.new.journal.doubt ≡ state.old.journal.doubt }
+    ensures journal { state.new.journal ≡ state.old.journal }
     ensures live { state.new.live ≡ released state.old.live pin.now }
 {
     let position = state.live.get(pin).position;
@@ -75,7 +76,7 @@ fn check(
     stage: &Stage,
 ) -> Checked
     requires { is_live state.now.live pin.now ≡ true }
-    ensures { IsChecked limits.now (length state.now.journal.log) (after_all nothing state.now.journal.log) (pin_of (state_of state.now) pin.now).path stage.now.staged result }
+    ensures { IsChecked limits.now (front_of state.now.journal) (table.content state.now.journal.past) (pin_of (state_of state.now) pin.now).path stage.now.staged result }
 {
     let live = state.live.get(pin);
     let table = state.journal.table();
@@ -95,7 +96,7 @@ fn carry_out<D: Disk>(
     requires settled { state.old.journal.doubt ≡ None }
     requires live { is_live state.old.live pin.now ≡ true }
     requires staged { is_empty stage.now.staged.refs stage.now.staged.records ≡ false }
-    requires checked { IsChecked limits.now (length state.old.journal.log) (after_all nothing state.old.journal.log) (pin_of (state_of state.old) pin.now).path stage.now.staged checked }
+    requires checked { IsChecked limits.now (front_of state.old.journal) (table.content state.old.journal.past) (pin_of (state_of state.old) pin.now).path stage.now.staged checked }
     ensures acts { Acts limits.now (state_of state.old) (Event.Commit pin.now stage.now.staged.refs stage.now.staged.records) result.answer (state_of state.new) }
     ensures kept { IsKeptOf (state_of state.old) (Event.Commit pin.now stage.now.staged.refs stage.now.staged.records) result }
     // A refusal and a full log are answered as such: no memory is wanted for that any more.
@@ -104,6 +105,7 @@ fn carry_out<D: Disk>(
     ensures fewer { length state.new.live ≤ length state.old.live }
     ensures cause { CallCause (D.fault_count disk.old) (D.fault_count disk.new) result.answer }
     ensures counted { D.call_count disk.new ≤ D.call_count disk.old + 4 }
+    ensures repos { state.new.journal.past.repos ≡ state.old.journal.past.repos }
     ensures moves { IsTrue D.tells → Moves limits.now (state_of state.old) (state_of state.new) (D.view disk.old) (D.view disk.new) }
 {
     match checked {
@@ -129,11 +131,12 @@ fn add_write<D: Disk>(
     requires settled { state.old.journal.doubt ≡ None }
     requires live { is_live state.old.live pin.now ≡ true }
     requires built { IsBuilt entry }
-    requires good { IsGoodWrite limits.now (length state.old.journal.log) (after_all nothing state.old.journal.log) entry }
+    requires good { IsGoodWrite limits.now (front_of state.old.journal) (table.content state.old.journal.past) entry }
     ensures adds { Ends (adds entry (Committed entry.position) (released state.old.live pin.now)) (state_of state.old) (answer_of result) (state_of state.new) ⊎ (((result ≡ End.Memory) ⊎ (result ≡ End.DeviceFault)) × (state_of state.new ≡ state_of state.old)) }
     ensures fewer { length state.new.live ≤ length state.old.live }
     ensures cause { CallCause (D.fault_count disk.old) (D.fault_count disk.new) (answer_of result) }
     ensures counted { D.call_count disk.new ≤ D.call_count disk.old + 4 }
+    ensures repos { state.new.journal.past.repos ≡ state.old.journal.past.repos }
     ensures moves { IsTrue D.tells → Moves limits.now (state_of state.old) (state_of state.new) (D.view disk.old) (D.view disk.new) }
 {
     let position = entry.position;

@@ -1,7 +1,9 @@
+ghost use Rattle.gt_journal.specs.Ledger.{front_of};
+ghost use Rattle.gt_table.specs.Table as table;
 ghost use Rattle.std.specs.Prelude.{◌≡◌, ◌≤◌, ◌+◌, IsTrue, None, length, true, false};
 ghost use Rattle.gt_model.specs.declared.event.Event.{Event};
 ghost use Rattle.gt_model.specs.Machine.{Step, Acts};
-ghost use Rattle.gt_model.specs.Contents.{nothing, after_all, has_repo};
+ghost use Rattle.gt_model.specs.Contents.{has_repo};
 ghost use Rattle.gt_act.specs.PartitionState.{state_of};
 ghost use Rattle.gt_act.specs.declared.ended.Ended.{Ended as End};
 ghost use Rattle.gt_act.specs.Causes.{CallCause, settling_calls};
@@ -29,6 +31,7 @@ pub fn create<D: Disk>(
     ensures pins { state.new.live ≡ state.old.live }
     ensures cause { CallCause (D.fault_count disk.old) (D.fault_count disk.new) (answer_of result) }
     ensures counted { D.call_count disk.new ≤ D.call_count disk.old + settling_calls state.old.journal.doubt + 4 }
+    ensures repos { state.new.journal.past.repos ≡ state.old.journal.past.repos }
     ensures moves { IsTrue D.tells → Moves limits.now (state_of state.old) (state_of state.new) (D.view disk.old) (D.view disk.new) }
 {
     if let Err(Failed) = state.journal.settle(disk) {
@@ -51,8 +54,9 @@ fn create_settled<D: Disk>(
     ensures pins { state.new.live ≡ state.old.live }
     ensures cause { CallCause (D.fault_count disk.old) (D.fault_count disk.new) (answer_of result) }
     ensures counted { D.call_count disk.new ≤ D.call_count disk.old + 4 }
-    ensures exists { has_repo (after_all nothing state.old.journal.log) path.now ≡ true → result ≡ End.RepositoryExists }
-    ensures full { has_repo (after_all nothing state.old.journal.log) path.now ≡ false → limits.now.positions ≤ length state.old.journal.log → result ≡ End.LogFull }
+    ensures exists { has_repo (table.content state.old.journal.past) path.now ≡ true → result ≡ End.RepositoryExists }
+    ensures full { has_repo (table.content state.old.journal.past) path.now ≡ false → limits.now.positions ≤ front_of state.old.journal → result ≡ End.LogFull }
+    ensures repos { state.new.journal.past.repos ≡ state.old.journal.past.repos }
     ensures moves { IsTrue D.tells → Moves limits.now (state_of state.old) (state_of state.new) (D.view disk.old) (D.view disk.new) }
 {
     if state.journal.table().has_repo(path) {

@@ -1,7 +1,9 @@
+ghost use Rattle.gt_journal.specs.Ledger.{front_of};
+ghost use Rattle.gt_table.specs.Table as table;
 ghost use Rattle.std.specs.Prelude.{◌≡◌, ◌≤◌, ◌+◌, IsTrue, IfOk, None, Err, true, false, length};
 ghost use Rattle.gt_model.specs.declared.event.Event.{Event};
 ghost use Rattle.gt_model.specs.declared.refusal.Refusal.{Refusal as Why};
-ghost use Rattle.gt_model.specs.Contents.{nothing, after_all, has_repo, least_member};
+ghost use Rattle.gt_model.specs.Contents.{has_repo, least_member};
 ghost use Rattle.gt_model.specs.Histories.{kept};
 ghost use Rattle.gt_model.specs.Machine.{Step, Acts};
 ghost use Rattle.gt_act.specs.PartitionState.{state_of};
@@ -33,6 +35,7 @@ pub fn delete<D: Disk>(
     ensures pins { state.new.live ≡ state.old.live }
     ensures cause { CallCause (D.fault_count disk.old) (D.fault_count disk.new) result.answer }
     ensures counted { D.call_count disk.new ≤ D.call_count disk.old + settling_calls state.old.journal.doubt + 4 }
+    ensures repos { state.new.journal.past.repos ≡ state.old.journal.past.repos }
     ensures moves { IsTrue D.tells → Moves limits.now (state_of state.old) (state_of state.new) (D.view disk.old) (D.view disk.new) }
 {
     if let Err(Failed) = state.journal.settle(disk) {
@@ -50,12 +53,13 @@ fn delete_settled<D: Disk>(
     path: &RepoPath,
 ) -> Reply
     requires { state.old.journal.doubt ≡ None }
-    ensures lacks { has_repo (after_all nothing state.old.journal.log) path.now ≡ false → result.answer ≡ Err Why.NoRepository }
+    ensures lacks { has_repo (table.content state.old.journal.past) path.now ≡ false → result.answer ≡ Err Why.NoRepository }
     ensures acts { Acts limits.now (state_of state.old) (Event.Delete path.now) result.answer (state_of state.new) }
     ensures kept { IsKeptOf (state_of state.old) (Event.Delete path.now) result }
     ensures pins { state.new.live ≡ state.old.live }
     ensures cause { CallCause (D.fault_count disk.old) (D.fault_count disk.new) result.answer }
     ensures counted { D.call_count disk.new ≤ D.call_count disk.old + 4 }
+    ensures repos { state.new.journal.past.repos ≡ state.old.journal.past.repos }
     ensures moves { IsTrue D.tells → Moves limits.now (state_of state.old) (state_of state.new) (D.view disk.old) (D.view disk.new) }
 {
     if !state.journal.table().has_repo(path) {
@@ -96,14 +100,15 @@ fn delete_unused<D: Disk>(
     path: &RepoPath,
 ) -> Ended
     requires settled { state.old.journal.doubt ≡ None }
-    requires there { has_repo (after_all nothing state.old.journal.log) path.now ≡ true }
-    requires unused { least_member (after_all nothing state.old.journal.log) path.now ≡ None }
-    ensures full { limits.now.positions ≤ length state.old.journal.log → result ≡ End.LogFull }
+    requires there { has_repo (table.content state.old.journal.past) path.now ≡ true }
+    requires unused { least_member (table.content state.old.journal.past) path.now ≡ None }
+    ensures full { limits.now.positions ≤ front_of state.old.journal → result ≡ End.LogFull }
     ensures acts { Acts limits.now (state_of state.old) (Event.Delete path.now) (answer_of result) (state_of state.new) }
     ensures kept { kept (state_of state.old) (Event.Delete path.now) (answer_of result) ≡ answer_of result }
     ensures pins { state.new.live ≡ state.old.live }
     ensures cause { CallCause (D.fault_count disk.old) (D.fault_count disk.new) (answer_of result) }
     ensures counted { D.call_count disk.new ≤ D.call_count disk.old + 4 }
+    ensures repos { state.new.journal.past.repos ≡ state.old.journal.past.repos }
     ensures moves { IsTrue D.tells → Moves limits.now (state_of state.old) (state_of state.new) (D.view disk.old) (D.view disk.new) }
 {
     match add_change(alloc, limits, state, disk, path, Change::Delete) {

@@ -1,13 +1,13 @@
-ghost use Rattle.std.specs.Prelude.{length};
-ghost use Rattle.gt_pins.specs.Live.{ReadBefore, reads_before};
+ghost use Rattle.gt_journal.specs.Ledger.{front_of};
+ghost use Rattle.gt_pins.specs.Live.{ReadIn, reads_in};
 
 use gt_journal::Journal;
 use gt_pins::Live;
 
-/// The log of a partition, and the live transactions, each of which reads a position of it.
+/// The log of a partition, and the live transactions, each of which reads a position of it from its base on.
 #[derive(Drop)]
 pub struct PartitionState {
     pub journal: Journal,
     pub live: Live,
-    pub ghost reads: { ReadBefore (length journal.log) live } by { reads_before _ _ },
+    pub ghost reads: { ReadIn journal.past.begin (front_of journal) live } by { reads_in _ _ _ },
 }

@@ -1,10 +1,13 @@
 -- What the files of a base have, and the content that it is.
-use Rattle.std.specs.Prelude.{ℕ, ◌+◌, List, [], ◌∷◌, fold, map as map_list, slice_range, Option, Some, None, Result, Ok, Err, if◌then◌else◌}
+use Rattle.std.specs.Prelude.{◌≡◌, ℕ, ◌+◌, List, [], ◌∷◌, fold, map as map_list, slice_range, Option, Some, None, Result, Ok, Err, if◌then◌else◌}
 use Rattle.std.specs.Option.{option_map, option_or}
 use Rattle.std.specs.Ordering.{eq_by_cmp}
 use Rattle.std.specs.FinMap as map
+use Rattle.std.specs.List.{AllByRecursion}
+use Rattle.gt_disk.specs.Files.{States, still}
 use Rattle.gt_disk.specs.Kinds.{pack_file}
 use Rattle.gt_model.specs.Contents.{key_cmp, Repo, Content, Names, nothing, and_then, union, with_value}
+use Rattle.gt_object.specs.Whole.{why_not}
 use Rattle.gt_model.specs.declared.reference.RefValue.{RefValue}
 use Rattle.gt_objset.specs.declared.place.Place.{Place}
 use Rattle.gt_pack.specs.declared.placed.Placed.{Placed}
@@ -78,3 +81,19 @@ content_of (r ∷ repos) = map.insert (content_of repos) r.path (repo_of r)
 -- where its records stand
 abbrev pub places_of : List BaseRepo → List ℕ → List ℕ → Option Place
 places_of repos path name = and_then (repo_at repos path) (λ r. place_of r.packs name)
+
+-- ---- in files
+
+-- Each pack that was read is still as it was.
+abbrev pub HoldsPack : States → PackFile → Type 0
+HoldsPack states p = states (pack_file p.number) ≡ still (Some p.bytes)
+
+abbrev pub HoldsPacks : List BaseRepo → States → Type 0
+HoldsPacks repos states = AllByRecursion (λ r. AllByRecursion (HoldsPack states) r.packs) repos
+
+-- A good record is what a file that is still has at this place.
+pub record StandsStill (states : States) (place : Place) (whole : List ℕ) : Type 0 where
+  pub bytes : List ℕ
+  pub file : states place.file ≡ still (Some bytes)
+  pub is : slice_range bytes place.at (place.at + place.len) ≡ whole
+  pub good : why_not whole ≡ None

@@ -6,3 +6,4 @@ pub mod Entries
 pub mod Recovery
 pub mod Answers
 pub mod Loading
+pub mod Switching

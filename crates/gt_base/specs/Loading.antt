@@ -1,5 +1,5 @@
 -- What the loading of a base answers.
-use Rattle.std.specs.Prelude.{ℕ, nat_lt, List, Result, Ok, Err, if◌then◌else◌}
+use Rattle.std.specs.Prelude.{ℕ, nat_lt, List, Option, Result, Ok, Err, if◌then◌else◌}
 use Rattle.gt_disk.specs.Kinds.{turn_file}
 use Rattle.gt_log.specs.Log.{content_length}
 use Rattle.gt_log.specs.declared.mount_cause.MountCause.{MountCause}
@@ -9,9 +9,10 @@ use Rattle.gt_reading.specs.Reading.{Reading, damaged, ask}
 use Rattle.gt_base.specs.declared.held.BaseRepo.{BaseRepo}
 use Rattle.gt_base.specs.Recovery.{Based, base_in}
 
--- A base, as clauses see it.
+-- A base, as clauses see it: its manifest, and the next one while it is in doubt whether that counts.
 pub record BaseState : Type 0 where
   pub manifest : Manifest
+  pub doubt : Option Manifest
 
 -- The base of an epoch, which may not be past the limit.
 abbrev pub limited : Limits → ℕ → ℕ → Reading Based

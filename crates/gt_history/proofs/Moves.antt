@@ -27,7 +27,7 @@ pub may_recover_settled : (old mid : State) (r : Recovered) → SettledEntry tru
 may_recover_settled old mid r settled clear (entry, turn, one, two, is) =
     (entry, turn, subst (SettledEntry true old) (sym (settled_same mid entry clear one)) settled, two, is)
 
-module _ {B : Type 0} (recover : Files → Result Recovered B) (Keeps : Recovered → States → Type 0) (counters : List FileId) where
+module _ {B : Type 0} (recover : Files → Result Recovered B) (Keeps : Files → States → Type 0) (counters : List FileId) where
   abbrev GivesThisOf : State → States → Type 0
   GivesThisOf = GivesThis recover Keeps counters
 

@@ -40,7 +40,7 @@ all_still : (files : Files) (counters : List FileId) → AllByRecursion (λ f. I
 all_still files [] = tt
 all_still files (f ∷ fs) = (tt, all_still files fs)
 
-module _ {B : Type 0} (recover : Files → Result Recovered B) (Keeps : Recovered → States → Type 0) (counters : List FileId) where
+module _ {B : Type 0} (recover : Files → Result Recovered B) (Keeps : Files → States → Type 0) (counters : List FileId) where
   abbrev GivesThisOf : State → States → Type 0
   GivesThisOf = GivesThis recover Keeps counters
 
@@ -58,7 +58,7 @@ module _ {B : Type 0} (recover : Files → Result Recovered B) (Keeps : Recovere
       let g = good.each m lt le in
       record { steady = g.steady; gives = λ image is. by m image (g.each image is) (before.gives image (narrows.each m lt le image is)) }
     where
-      by : (m : ℕ) (image : Files) → (r : Recovered) × (recover image ≡ Ok r) × Keeps r (w.at m) × IsSoundState (opening r) → Gives recover Keeps counters s (now v) image → Gives recover Keeps counters s (w.at m) image
+      by : (m : ℕ) (image : Files) → (r : Recovered) × (recover image ≡ Ok r) × Keeps image (w.at m) × IsSoundState (opening r) → Gives recover Keeps counters s (now v) image → Gives recover Keeps counters s (w.at m) image
       by m image (r, is, keeps, sound) (r2, is2, may, keeps2) = (r, is, subst (MayRecover s) (same_ok (recover image) r2 r is2 is) may, keeps)
 
   -- at the end too
@@ -84,16 +84,18 @@ module _ {B : Type 0} (recover : Files → Result Recovered B) (Keeps : Recovere
   pub given_good : (s : State) (states : States) → IsInOrder s → IsSoundState s → GivesThisOf s states → IsGoodOf states
   given_good s states order sound gives = record { steady = gives.steady; each = λ image is. by (gives.gives image is) }
     where
-      by : {image : Files} → Gives recover Keeps counters s states image → (r : Recovered) × (recover image ≡ Ok r) × Keeps r states × IsSoundState (opening r)
+      by : {image : Files} → Gives recover Keeps counters s states image → (r : Recovered) × (recover image ≡ Ok r) × Keeps image states × IsSoundState (opening r)
       by (r, is, may, keeps) = (r, is, keeps, may_recover_sound s r order may sound)
 
   -- what a stop leaves may be handed in, where what is still keeps what it recovers to
-  pub stop_good : ((image : Files) (r : Recovered) → recover image ≡ Ok r → Keeps r (λ file. still (image file))) → (states : States) (files : Files) → IsGoodOf states → IsImage states files → IsGoodOf (λ file. still (files file))
+  pub stop_good : ((image : Files) (r : Recovered) → recover image ≡ Ok r → Keeps image (λ file. still (image file))) → (states : States) (files : Files) → IsGoodOf states → IsImage states files → IsGoodOf (λ file. still (files file))
   stop_good stays states files good left =
       record { steady = all_still files counters; each = λ image is. by image (one_image files image is) (good.each files left) }
     where
-      by : (image : Files) → image ≡ files → (r : Recovered) × (recover files ≡ Ok r) × Keeps r states × IsSoundState (opening r) → (r : Recovered) × (recover image ≡ Ok r) × Keeps r (λ file. still (files file)) × IsSoundState (opening r)
-      by image same (r, is, keeps, sound) = (r, ap recover same ∙ is, stays files r is, sound)
+      by : (image : Files) → image ≡ files → (r : Recovered) × (recover files ≡ Ok r) × Keeps files states × IsSoundState (opening r) → (r : Recovered) × (recover image ≡ Ok r) × Keeps image (λ file. still (files file)) × IsSoundState (opening r)
+      by image same (r, is, keeps, sound) =
+          let here = ap recover same ∙ is in
+          (r, here, subst (λ (x : Files). Keeps image (λ file. still (x file))) same (stays image r here), sound)
 
   -- what a disk shows that gives a state, it may recover to
   pub shown_settles : (s : State) (v : View) (r : Recovered) → GivesThisOf s (now v) → IsImage (now v) v.reads → recover v.reads ≡ Ok r → Settles s (opening r)

@@ -25,7 +25,7 @@ lt_false m n le = grind (arith, nat_tests)
 pub same_ok : {A B : Type 0} (r : Result A B) (a b : A) → r ≡ Ok a → r ≡ Ok b → a ≡ b
 same_ok r a b one other = let ok : Ok a ≡ Ok b = sym one ∙ other in cc ok
 
-module _ {B : Type 0} (recover : Files → Result Recovered B) (Keeps : Recovered → States → Type 0) (counters : List FileId) where
+module _ {B : Type 0} (recover : Files → Result Recovered B) (Keeps : Files → States → Type 0) (counters : List FileId) where
   abbrev GivesOf : State → States → Files → Type 0
   GivesOf = Gives recover Keeps counters
 
@@ -95,7 +95,7 @@ module _ {B : Type 0} (recover : Files → Result Recovered B) (Keeps : Recovere
 
   -- what an image recovers to is safe, and its files are still
   abbrev pub Safely : ℕ → State × State → States → Files → Type 0
-  Safely n both states image = (r : Recovered) × (recover image ≡ Ok r) × IsSafe n both.0 both.1 r × Keeps r states
+  Safely n both states image = (r : Recovered) × (recover image ≡ Ok r) × IsSafe n both.0 both.1 r × Keeps image states
 
   -- what a state gives at one moment it gives at the same moment
   gives_at : (s : State) (at : ℕ → States) (m n : ℕ) → m ≡ n → GivesThisOf s (at n) → GivesThisOf s (at m)

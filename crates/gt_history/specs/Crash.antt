@@ -37,14 +37,14 @@ Ascends begin (h ∷ older) = Ascends begin older × (last_tick begin older ≤ 
 
 -- ---- over a way to recover
 
--- what files recover to, what is still of them then, and the files whose lengths count
-module _ {B : Type 0} (recover : Files → Result Recovered B) (Keeps : Recovered → States → Type 0) (counters : List FileId) where
+-- what files recover to, what has to be still where a stop may leave an image, and the files whose lengths count
+module _ {B : Type 0} (recover : Files → Result Recovered B) (Keeps : Files → States → Type 0) (counters : List FileId) where
   abbrev pub AreSteady : States → Type 0
   AreSteady states = AllByRecursion (λ f. IsSteady (states f)) counters
 
   -- An image of these states gives this state: it recovers to what the state may recover to, by files that are still.
   abbrev pub Gives : State → States → Files → Type 0
-  Gives s states image = (r : Recovered) × (recover image ≡ Ok r) × MayRecover s r × Keeps r states
+  Gives s states image = (r : Recovered) × (recover image ≡ Ok r) × MayRecover s r × Keeps image states
 
   -- Each image gives this state.
   pub record GivesThis (s : State) (states : States) : Type 0 where
@@ -59,7 +59,7 @@ module _ {B : Type 0} (recover : Files → Result Recovered B) (Keeps : Recovere
   -- A disk that may be handed in: whatever a stop leaves recovers to sound contents, of whose entries each says what it needs, by files that are still; what counts is still or grown by one byte at most.
   pub record IsGood (states : States) : Type 0 where
     pub steady : AreSteady states
-    pub each : (image : Files) → IsImage states image → (r : Recovered) × (recover image ≡ Ok r) × Keeps r states × IsSoundState (opening r)
+    pub each : (image : Files) → IsImage states image → (r : Recovered) × (recover image ≡ Ok r) × Keeps image states × IsSoundState (opening r)
 
   -- Whatever a stop at this moment leaves recovers.
   abbrev pub CrashAt : State → ℕ → (ℕ → States) → List Happening → ℕ → Type 0

@@ -15,7 +15,7 @@ pub record KeepsPast (old new : View) : Type 0 where
   pub clock : old.clock ≤ new.clock
   pub at : (m : ℕ) → m ≤ old.clock → new.at m ≡ old.at m
 
-module _ {B : Type 0} (recover : Files → Result Recovered B) (Keeps : Recovered → States → Type 0) (counters : List FileId) where
+module _ {B : Type 0} (recover : Files → Result Recovered B) (Keeps : Files → States → Type 0) (counters : List FileId) where
   -- what a stop leaves at the moments of a happening, after which all contents are sound
   pub record Leaves (at : ℕ → States) (u t : ℕ) (old new : State) : Type 0 where
     pub later : u ≤ t
@@ -29,7 +29,7 @@ module _ {B : Type 0} (recover : Files → Result Recovered B) (Keeps : Recovere
   Run limits start begin at (h ∷ older) =
       Run limits start begin at older × Happens limits (last_state start older) h × Leaves at (last_tick begin older) (tick h) (last_state start older) (state h)
 
-module _ {B : Type 0} (recover : Files → Result Recovered B) (Keeps : Recovered → States → Type 0) (counters : List FileId) (Stored : State → States → Type 0) where
+module _ {B : Type 0} (recover : Files → Result Recovered B) (Keeps : Files → States → Type 0) (counters : List FileId) (Stored : State → States → Type 0) where
   -- An event leaves the new state in the files, and at each of its moments each image gives the old state or the new one.
   abbrev pub Moves : State → State → View → View → Type 0
   Moves old new v w = Stored old (now v) → Stored new (now w) × Since (GivesEither recover Keeps counters old new) v w

@@ -1,40 +1,56 @@
 -- Disks that may be handed in, and what is opened of them.
-use Rattle.std.proofs.Common.{◌≡◌, ◌≢◌, inl, inr, ℕ, ◌+◌, ◌≤◌, Bool, cond, nat_lt, false, List, [], length, map, None, Ok, Err, refl, sym, ◌∙◌, ap, subst, arith}
-use Rattle.std.proofs.lemmas.Bool.Decides.{nat_tests}
-use Rattle.std.proofs.lemmas.List.{length-map}
+use Rattle.std.proofs.Common.{◌≡◌, ◌≢◌, inl, inr, ℕ, ◌+◌, ◌≤◌, List, [], ◌∷◌, ◌++◌, Some, None, Result, Ok, Err, refl, sym, ◌∙◌, ap, subst, arith}
+use Rattle.std.specs.List.{AllByRecursion}
 use Rattle.gt_disk.specs.declared.file_id.FileId.{FileId}
-use Rattle.gt_disk.specs.Files.{Content as FileContent, Files, FileState, States, View, now, IsImage, still, Quiet}
-use Rattle.gt_disk.specs.Kinds.{gate_file, entry_file}
+use Rattle.gt_disk.specs.Files.{Content as FileContent, Files, FileState, Leaves, States, View, now, IsImage, still}
+use Rattle.gt_disk.specs.Kinds.{gate_file, turn_file, pack_file}
 use Rattle.gt_disk.specs.Moments.{Since, Narrows, Runs, Lasting}
-use Rattle.gt_disk.proofs.Steps.{since_quiet}
-use Rattle.gt_log.specs.Log.{Stands, KeepsEntries, Recovers}
-use Rattle.gt_log.proofs.Images.{image_still}
-use Rattle.gt_model.specs.declared.entry.Entry.{Entry}
+use Rattle.gt_log.specs.Log.{content_length}
 use Rattle.gt_model.specs.declared.limits.Limits.{Limits}
-use Rattle.gt_model.specs.Machine.{Recovered, opening, unapplied}
-use Rattle.gt_sound.specs.Sound.{IsSoundState}
+use Rattle.gt_model.specs.Machine.{Recovered, unapplied}
 use Rattle.gt_sound.proofs.Logs.{empty_sound}
 use Rattle.gt_history.specs.Crash.{IsSteady}
-use Rattle.gt_history.proofs.Safe.{same_ok}
 use Rattle.gt_history.proofs.Runs as runs
-use Rattle.gt_journal.specs.Ledger.{Stored}
-use Rattle.gt_journal.specs.Recovery.{recover, recover_log, never_applied, Keeps, counters, IsKept}
+use Rattle.gt_reading.specs.Reading.{Reading, done, AsksOnly, run, asked, ◌>>=◌, each_in, list_in, one_more}
+use Rattle.gt_reading.specs.Frames.{IsStill, AreStill, Well, GoesWell}
+use Rattle.gt_reading.proofs.Programs.{agree, asks_only, every_weaker, split, asks_file, gives_file}
+use Rattle.gt_base.specs.Held.{HoldsPack, HoldsPacks}
+use Rattle.gt_base.specs.Packs.{PackFile}
+use Rattle.gt_base.specs.declared.held.BaseRepo.{BaseRepo}
+use Rattle.gt_base.specs.Recovery.{Based, Loaded, pack_as, pack_in, packed_in, loose_in, repo_in, first_manifest, manifest_in, based_on, base_in, counted, recover, data_files, Keeps, counters}
 use Rattle.gt_journal.specs.Histories.{IsGood}
-use Rattle.gt_base.specs.Spelling.{encode}
-use Rattle.gt_journal.proofs.Steady.{turn_beside_gate}
-use Rattle.gt_journal.proofs.Recovering.{recovered}
+use Rattle.gt_log.proofs.Images.{image_still}
+use Rattle.gt_manifest.specs.declared.manifest.RepoFiles.{RepoFiles}
+use Rattle.gt_pack.specs.declared.placed.Placed.{Placed}
+use Rattle.gt_pack.specs.Reading.{pack_of}
+use Rattle.gt_journal.proofs.Based.{only_counted, counted_is, loaded_recovers, base_any, front_still}
 
 -- ---- moments at which no stop can leave anything new
 
-apart : (a b : ℕ) → a ≡ 4 → b ≡ 1 → a ≢ b
-apart a b four one is = omega arith
+-- a file that counts isn't among those that are read
+not_gate : (n k : ℕ) → 3 ≤ k → (record { kind = k; number = n } ≡ gate_file → ⊥) × (record { kind = k; number = n } ≡ turn_file → ⊥)
+not_gate n k le = ((λ e. let kinds : k ≡ 1 = ap (λ (f : FileId). f.kind) e in omega (arith, le, kinds)), λ e. let kinds : k ≡ 2 = ap (λ (f : FileId). f.kind) e in omega (arith, le, kinds))
 
-entry_not_gate : (n : ℕ) → entry_file n ≢ gate_file
-entry_not_gate n is = apart 4 1 refl refl (ap (λ (f : FileId). f.kind) is)
+abbrev IsData : FileId → Type 0
+IsData f = (f ≡ gate_file → ⊥) × (f ≡ turn_file → ⊥)
+
+data_only : (limits : Limits) (epoch gate : ℕ) → AsksOnly IsData (counted limits epoch gate)
+data_only limits epoch gate = only_counted IsData (λ n. not_gate n 3 (omega arith)) (λ n. not_gate n 5 (omega arith)) (λ n. not_gate n 6 (omega arith)) (λ n. not_gate n 7 (omega arith)) (λ n. not_gate n 4 (omega arith)) limits epoch gate
+
+still_beside : (before states : States) → ((f : FileId) → IsData f → states f ≡ before f) → (fs : List FileId) → AllByRecursion IsData fs → AreStill before fs → AreStill states fs
+still_beside before states same [] only held = tt
+still_beside before states same (f ∷ fs) only held = ((held.0.0, same f only.0 ∙ held.0.1), still_beside before states same fs only.1 held.1)
+
+keeps_beside : (limits : Limits) (image : Files) (before states : States) → ((f : FileId) → IsData f → states f ≡ before f) → Keeps limits image before → Keeps limits image states
+keeps_beside limits image before states same held =
+    still_beside before states same (data_files limits image) (asks_only IsData (counted limits (content_length (image turn_file)) (content_length (image gate_file))) image (data_only limits (content_length (image turn_file)) (content_length (image gate_file)))) held
 
 lasting_steady : (before : FileState) (shown : FileContent) (s : FileState) → Lasting before shown s → IsSteady before → IsSteady s
 lasting_steady before shown s (inl is) steady = subst IsSteady (sym is) steady
 lasting_steady before shown s (inr is) steady = subst IsSteady (sym is) tt
+
+gate_not_turn : gate_file ≢ turn_file
+gate_not_turn e = let kinds : 1 ≡ 2 = ap (λ (f : FileId). f.kind) e in absurd (omega (arith, kinds))
 
 -- where the gate alone differs, as it was or as it was read, and leaves no more
 pub good_beside : (limits : Limits) (v w : View) → Runs gate_file (Lasting (now v gate_file) (v.reads gate_file)) v w → Narrows v w → IsGood limits (now v) → Since (IsGood limits) v w
@@ -42,69 +58,112 @@ good_beside limits v w gate narrows good = record {
   later = narrows.later;
   past = narrows.past;
   each = λ m lt le. record {
-    steady = (lasting_steady (now v gate_file) (v.reads gate_file) (w.at m gate_file) (gate.this m lt le) good.steady.0, (turn_beside_gate (now v) (w.at m) (gate.others m lt le) good.steady.1.0, tt));
+    steady = (lasting_steady (now v gate_file) (v.reads gate_file) (w.at m gate_file) (gate.this m lt le) good.steady.0, (subst IsSteady (sym (gate.others m lt le turn_file (λ e. gate_not_turn (sym e)))) good.steady.1.0, tt));
     each = λ image is.
         let g = good.each image (narrows.each m lt le image is) in
-        (g.0, g.1, (λ k in_log. let at = g.2 k in_log in (at.0, gate.others m lt le (entry_file (k + (g.0.applied + 1))) (entry_not_gate (k + (g.0.applied + 1))) ∙ at.1)), g.3);
+        (g.0, g.1, keeps_beside limits image (now v) (w.at m) (λ f other. gate.others m lt le f other.0) g.2, g.3);
   };
 }
 
-pub good_quiet : (limits : Limits) (u v w : View) → Runs gate_file (Lasting (now u gate_file) (u.reads gate_file)) u v → Narrows u v → Quiet v w → IsGood limits (now u) → Since (IsGood limits) u w
-good_quiet limits u v w gate narrows quiet good = since_quiet (IsGood limits) u v w (good_beside limits u v gate narrows good) quiet
+-- where turn alone does
+pub good_turning : (limits : Limits) (v w : View) → Runs turn_file (Lasting (now v turn_file) (v.reads turn_file)) v w → Narrows v w → IsGood limits (now v) → Since (IsGood limits) v w
+good_turning limits v w turn narrows good = record {
+  later = narrows.later;
+  past = narrows.past;
+  each = λ m lt le. record {
+    steady = (subst IsSteady (sym (turn.others m lt le gate_file gate_not_turn)) good.steady.0, (lasting_steady (now v turn_file) (v.reads turn_file) (w.at m turn_file) (turn.this m lt le) good.steady.1.0, tt));
+    each = λ image is.
+        let g = good.each image (narrows.each m lt le image is) in
+        (g.0, g.1, keeps_beside limits image (now v) (w.at m) (λ f other. turn.others m lt le f other.1) g.2, g.3);
+  };
+}
 
 -- ---- disks that may be handed in
 
--- files that are still keep what they recover to
-pub still_keeps : (image : Files) (r : Recovered) → Keeps r (λ file. still (image file))
-still_keeps image r k in_log = (image (entry_file (k + (r.applied + 1))), refl)
+-- files that are still keep what they recover by
+all_still : (image : Files) (fs : List FileId) → AreStill (λ file. still (image file)) fs
+all_still image [] = tt
+all_still image (f ∷ fs) = ((image f, refl), all_still image fs)
 
 pub stop_good : (limits : Limits) (states : States) (files : Files) → IsGood limits states → IsImage states files → IsGood limits (λ file. still (files file))
-stop_good limits = runs.stop_good (recover limits) Keeps counters (λ image r is. still_keeps image r)
+stop_good limits = runs.stop_good (recover limits) (Keeps limits) counters (λ image r is. all_still image (data_files limits image))
+
+no_files : Files
+no_files = λ file. None
+
+abbrev empty_base : Based
+empty_base = record { manifest = first_manifest; repos = [] }
+
+abbrev empty_loaded : Loaded
+empty_loaded = record { base = empty_base; log = [] }
 
 pub empty_good : (limits : Limits) → IsGood limits (λ file. still None)
-empty_good limits = record {
-  steady = (tt, (tt, tt));
-  each = λ image is.
-      let fits : nat_lt limits.positions 0 ≡ false = grind (arith, nat_tests) in
-      let none : recover_log limits (λ file. None) ≡ Ok [] = ap (λ (b : Bool). cond b (Err (gate_file, limits.positions)) (Ok [])) fits in
-      (unapplied [], ap (λ (x : Files). recover limits x) (runs.one_image (λ file. None) image is) ∙ ap never_applied none, (λ k in_log. absurd (omega (arith, in_log))), empty_sound);
-}
+empty_good limits =
+    let here : run (λ file. None) (counted limits 0 0) ≡ Ok empty_loaded = counted_is limits (λ file. None) 0 0 empty_base [] (omega arith) (omega arith) refl refl in
+    let whole : recover limits (λ file. None) ≡ Ok (unapplied []) = loaded_recovers limits (λ file. None) empty_loaded here in
+    record {
+      steady = (tt, (tt, tt));
+      each = λ image is. (unapplied [], ap (λ (x : Files). recover limits x) (runs.one_image (λ file. None) image is) ∙ whole, subst (λ (x : Files). Keeps limits image (λ file. still (x file))) (runs.one_image (λ file. None) image is) (all_still image (data_files limits image)), empty_sound);
+    }
 
 -- ---- openings
 
--- what a good disk shows is still
-pub record GoodEntries (limits : Limits) (v : View) (log : List Entry) : Type 0 where
-  pub files : Recovers 1 v.reads (map encode log)
-  pub keeps : KeepsEntries 1 (map encode log) (now v)
-  pub legal : IsKept log
-  pub within : length log ≤ limits.positions
-  pub sound : IsSoundState (opening (unapplied log))
+same_still : (states : States) (a image : Files) → IsImage states a → IsImage states image → (f : FileId) → IsStill (states f) → image f ≡ a f
+same_still states a image is_a is f (x, same) =
+    subst (λ (s : FileState). Leaves s (image f)) same (is f) ∙ sym (subst (λ (s : FileState). Leaves s (a f)) same (is_a f))
 
-pub good_entries : (limits : Limits) → (v : View) (log : List Entry) → IsImage (now v) v.reads → IsGood limits (now v) → recover_log limits v.reads ≡ Ok log → GoodEntries limits v log
-good_entries limits v log shows good is =
-    let g = good.each v.reads shows in
-    let r = recovered limits v.reads log is in
-    let same : g.0 ≡ unapplied log = same_ok (recover limits v.reads) g.0 (unapplied log) g.1 (ap never_applied is) in
-    let keeps : Keeps (unapplied log) (now v) = subst (λ (x : Recovered). Keeps x (now v)) same g.2 in
-    record {
-      files = r.files;
-      keeps = λ k lt.
-          let at = keeps k (omega (arith, lt, length-map log encode)) in
-          at.1 ∙ ap still (sym (image_still (now v) v.reads (entry_file (k + 1)) at.0 shows at.1) ∙ r.files.each k lt);
-      legal = r.legal;
-      within = r.within;
-      sound = subst (λ (x : Recovered). IsSoundState (opening x)) same g.3;
-    }
+-- by still files each image reads the same base
+pub based_still : (states : States) (files : Files) (epoch gate : ℕ) (b : Based) → IsImage states files → run files (base_in epoch gate) ≡ Ok b → AreStill states (asked files (base_in epoch gate))
+    → (other : ℕ) → b.manifest.applied ≤ other → GoesWell (base_in epoch other) (λ y. y ≡ b) states
+based_still states files epoch gate b shows is held other le image im =
+    let any = base_any files epoch gate other b is le in
+    let here : AreStill states (asked files (base_in epoch other)) = subst (AreStill states) (sym any.asks) held in
+    let same = agree (base_in epoch other) files image (every_weaker (λ f. IsStill (states f)) (λ f. image f ≡ files f) (same_still states files image shows im) (asked files (base_in epoch other)) here) in
+    record { what = b; is = same.0 ∙ any.is; has = refl; steady = subst (AreStill states) (sym same.1) here }
 
-pub opened_sound : (limits : Limits) → (v : View) (log : List Entry) → IsImage (now v) v.reads → IsGood limits (now v) → recover_log limits v.reads ≡ Ok log → IsSoundState (opening (unapplied log))
-opened_sound limits v log shows good is = (good_entries limits v log shows good is).sound
+-- ---- packs that were read
 
-pub opened_stored : (limits : Limits) → (v w x : View) (log : List Entry) → IsImage (now v) v.reads → IsGood limits (now v) → recover_log limits v.reads ≡ Ok log
-    → ((entries : List (List ℕ)) → Recovers 1 v.reads entries → KeepsEntries 1 entries (now v) → Stands 1 entries (now w)) → Quiet w x → IsGood limits (now x) → Stored limits (opening (unapplied log)) (now x)
-opened_stored limits v w x log shows good is stands quiet later =
-    let e = good_entries limits v log shows good is in
-    let here : now x ≡ now w = ap (λ (k : ℕ). x.at k) quiet.clock ∙ ap (λ (a : ℕ → States). a w.clock) quiet.at in
-    record {
-      plain = refl;
-      by = record { files = subst (λ (s : States). Stands 1 (map encode log) s) (sym here) (stands (map encode log) e.files e.keeps); legal = e.legal; within = e.within; turn = later.steady.1.0 };
-    }
+all_push : {A : Type 0} (P : A → Type 0) (xs : List A) (x : A) → AllByRecursion P xs → P x → AllByRecursion P (xs ++ x ∷ [])
+all_push P [] x all here = (here, tt)
+all_push P (y ∷ ys) x all here = (all.0, all_push P ys x all.1 here)
+
+module _ (states : States) (files : Files) (shows : IsImage states files) where
+  each_listed : {A B : Type 0} (P : B → Type 0) (read : A → Reading B) → ((x : A) (y : B) → run files (read x) ≡ Ok y → AreStill states (asked files (read x)) → P y)
+      → (before : List B) (xs : List A) (ys : List B) → run files (each_in (one_more read) before xs) ≡ Ok ys → AreStill states (asked files (each_in (one_more read) before xs)) → AllByRecursion P before → AllByRecursion P ys
+  each_listed P read one before [] ys is held all = let same : before ≡ ys = cc (is) in subst (AllByRecursion P) same all
+  each_listed P read one before (x ∷ xs) ys is held all =
+      let a = split (one_more read before x) (λ more. each_in (one_more read) more xs) files ys is in
+      let b = split (read x) (λ y. done (before ++ y ∷ [])) files a.first a.first_is in
+      let parts = front_still states (asked files (one_more read before x)) _ (subst (AreStill states) a.asks held) in
+      let mine = (front_still states (asked files (read x)) _ (subst (AreStill states) b.asks parts.0)).0 in
+      let more : before ++ b.first ∷ [] ≡ a.first = cc (b.then_is) in
+      each_listed P read one a.first xs ys a.then_is parts.1 (subst (AllByRecursion P) more (all_push P before b.first all (one x b.first b.first_is mine)))
+
+  pack_held : (n : ℕ) (p : PackFile) → run files (pack_in n) ≡ Ok p → AreStill states (asked files (pack_in n)) → HoldsPack states p
+  pack_held n p is held =
+      let g = gives_file (pack_file n) (λ bytes. pack_as n bytes (pack_of bytes)) files p is in
+      let s = pack_is n g.0 (pack_of g.0) p g.2 in
+      let x : IsStill (states (pack_file n)) = (subst (AreStill states) (asks_file (pack_file n) (λ bytes. pack_as n bytes (pack_of bytes)) files) held).0 in
+      ap (λ (k : ℕ). states (pack_file k)) s.0 ∙ x.1 ∙ ap still (sym (image_still states files (pack_file n) x.0 shows x.1) ∙ g.1 ∙ ap Some (sym s.1))
+    where
+      pack_is : (n : ℕ) (bytes : List ℕ) (o : Result (List Placed) ℕ) (p : PackFile) → pack_as n bytes o ≡ Ok p → (p.number ≡ n) × (p.bytes ≡ bytes)
+      pack_is n bytes (Ok places) p is = let same : record { number = n; bytes = bytes } ≡ p = cc (is) in (sym (ap (λ (q : PackFile). q.number) same), sym (ap (λ (q : PackFile). q.bytes) same))
+      pack_is n bytes (Err at) p is = absurd (cc (is))
+
+  repo_held : (r : RepoFiles) (repo : BaseRepo) → run files (repo_in r) ≡ Ok repo → AreStill states (asked files (repo_in r)) → AllByRecursion (HoldsPack states) repo.packs
+  repo_held r repo is held =
+      let a = split (list_in pack_in r.packs) _ files repo is in
+      let b = split (packed_in r.packed) _ files repo a.then_is in
+      let l = split (list_in loose_in r.loose) _ files repo b.then_is in
+      let same : record { path = r.path; is_pool = r.is_pool; pool = r.pool; packs = a.first; packed = b.first; loose = l.first } ≡ repo = cc (l.then_is) in
+      let mine = (front_still states (asked files (list_in pack_in r.packs)) _ (subst (AreStill states) a.asks held)).0 in
+      subst (λ (x : BaseRepo). AllByRecursion (HoldsPack states) x.packs) same (each_listed (HoldsPack states) pack_in pack_held [] r.packs a.first a.first_is mine tt)
+
+  pub packs_held : (epoch gate : ℕ) (b : Based) → run files (base_in epoch gate) ≡ Ok b → AreStill states (asked files (base_in epoch gate)) → HoldsPacks b.repos states
+  packs_held epoch gate b is held =
+      let m = split (manifest_in epoch gate) based_on files b is in
+      let l = split (list_in repo_in m.first.repos) (λ repos. done (record { manifest = m.first; repos = repos })) files b m.then_is in
+      let same : record { manifest = m.first; repos = l.first } ≡ b = cc (l.then_is) in
+      let rest = (front_still states (asked files (manifest_in epoch gate)) _ (subst (AreStill states) m.asks held)).1 in
+      let mine = (front_still states (asked files (list_in repo_in m.first.repos)) _ (subst (AreStill states) l.asks rest)).0 in
+      subst (λ (x : Based). HoldsPacks x.repos states) same (each_listed (λ r. AllByRecursion (HoldsPack states) r.packs) repo_in repo_held [] m.first.repos l.first l.first_is mine tt)

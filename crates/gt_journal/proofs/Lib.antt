@@ -1,9 +1,12 @@
 pub mod Bytes
+pub mod ReadLog
 pub mod Recovering
 pub mod Typing
 pub mod LoadSteps
 pub mod Steady
+pub mod Based
 pub mod Images
 pub mod Moves
 pub mod Good
+pub mod Opened
 pub mod Placed

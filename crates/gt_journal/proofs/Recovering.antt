@@ -1,20 +1,26 @@
 -- From files through their spelling to a log, and back.
-use Rattle.std.proofs.Common.{◌≡◌, ◌⊎◌, inl, inr, ⊎_elim, ℕ, zero, suc, ◌+◌, ◌<◌, ◌≤◌, Bool, true, false, cond, nat_lt, nat_eq, ◌&&◌, List, [], ◌∷◌, ◌++◌, length, get_or, map, Some, None, Result, Ok, Err, refl, sym, ap, ◌∙◌, arith, subst, IsTrue, length-append}
-use Rattle.std.proofs.lemmas.List.{length-map, map-append}
+use Rattle.std.proofs.Common.{◌≡◌, inl, inr, ℕ, zero, suc, ◌+◌, ◌-◌, ◌<◌, Bool, true, false, cond, nat_lt, nat_eq, ◌&&◌, List, [], ◌∷◌, ◌++◌, length, get_or, map, Some, None, Result, Ok, Err, refl, sym, ap, ap₂, ◌∙◌, arith, subst, IsTrue, length-append}
+use Rattle.std.proofs.lemmas.List.{length-map, map-append, append-nil}
+use Rattle.std.proofs.lemmas.Bool.{cases_lt}
 use Rattle.std.proofs.lemmas.Bool.Decides.{nat_tests}
 use Rattle.std.specs.Prelude.{bytes_eq}
 use Rattle.gt_entry.specs.Reading.{entry_of}
-use Rattle.gt_disk.specs.Files.{Content as FileContent, Files, States, IsImage}
-use Rattle.gt_disk.specs.Kinds.{gate_file, entry_file}
-use Rattle.gt_log.specs.Log.{content_length, Recovers, KeepsEntries, Stands, Doubts, Adding}
-use Rattle.gt_log.proofs.Images.{stands_recovers, doubts_recovers}
+use Rattle.gt_disk.specs.declared.file_id.FileId.{FileId}
+use Rattle.gt_disk.specs.Files.{Content as FileContent, Files, States, IsImage, still}
+use Rattle.gt_disk.specs.Kinds.{entry_file}
+use Rattle.gt_log.specs.Log.{Recovers, KeepsEntries}
+use Rattle.gt_log.proofs.Images.{image_still}
 use Rattle.gt_model.specs.declared.entry.Entry.{Entry}
-use Rattle.gt_model.specs.declared.limits.Limits.{Limits}
-use Rattle.gt_model.specs.Contents.{Content, nothing, after, after_all, fits, IsLegal}
+use Rattle.gt_model.specs.Contents.{Content, after, after_all, fits, IsLegal}
 use Rattle.gt_model.proofs.Logs.{legal_front, legal_append}
 use Rattle.gt_base.specs.Spelling.{encode, IsSpelled, AreSpelled, exactly, placed, decode}
 use Rattle.gt_base.specs.Built.{is_built, IsBuilt}
-use Rattle.gt_journal.specs.Recovery.{Damage, fitting, entry_in, and_more, read_log, recover_log, IsKept, KeepsFiles}
+use Rattle.gt_reading.specs.Reading.{Damage, done, run, asked, parsed, ◌>>=◌}
+use Rattle.gt_reading.proofs.Programs.{split}
+use Rattle.gt_reading.specs.Frames.{IsStill, AreStill}
+use Rattle.gt_base.specs.Entries.{fitting, entry_of as entry_at, entry_in, entries_in}
+use Rattle.gt_journal.specs.Ledger.{IsKept}
+use Rattle.gt_journal.proofs.ReadLog.{and_more, read_log, entries_are}
 use Rattle.gt_journal.proofs.Bytes.{pointwise-refl, pointwise-true}
 
 bytes_same : (xs : List ℕ) → bytes_eq xs xs ≡ true
@@ -28,7 +34,7 @@ decode_encode p e at (made, again) =
     ∙ ap (λ b. placed p (cond b (Ok e) (Err 0))) (bytes_same (encode e))
     ∙ ap (λ b. cond b (Ok e) (Err 4)) there
 
-here_is : (c : Content) (p : ℕ) (e : Entry) → e.position ≡ p → IsSpelled e → IsTrue (fits c e) → entry_in (Some (encode e)) c p ≡ Ok e
+here_is : (c : Content) (p : ℕ) (e : Entry) → e.position ≡ p → IsSpelled e → IsTrue (fits c e) → entry_at (Some (encode e)) c p ≡ Ok e
 here_is c p e at good fit =
     ap (fitting c) (decode_encode p e at good)
     ∙ ap (λ b. cond (b && fits c e) (Ok e) (Err 0)) good.0
@@ -39,21 +45,16 @@ reads : (files : Files) (c : Content) (p : ℕ) (log : List Entry) → ((k : ℕ
 reads files c p [] each legal spelled = refl
 reads files c p (u ∷ us) each legal spelled =
     let here : files (entry_file p) ≡ Some (encode u) = ap (λ (n : ℕ). files (entry_file n)) (let e : p ≡ p + 0 = omega arith in e) ∙ each 0 (omega arith) in
-    let is : entry_in (files (entry_file p)) c p ≡ Ok u = ap (λ x. entry_in x c p) here ∙ here_is c p u legal.0 spelled.0 legal.1 in
+    let is : entry_at (files (entry_file p)) c p ≡ Ok u = ap (λ x. entry_at x c p) here ∙ here_is c p u legal.0 spelled.0 legal.1 in
     let next : read_log files (after c u) (p + 1) (length us) ≡ Ok us =
     reads files (after c u) (p + 1) us (λ k lt. ap (λ (n : ℕ). files (entry_file n)) (let e : p + 1 + k ≡ p + suc k = omega arith in e) ∙ each (suc k) (omega (arith, lt))) legal.2 spelled.1 in
     ap (λ o. and_more o p (λ x. read_log files (after c x) (p + 1) (length us))) is ∙ ap (λ r. and_more (Ok u) p (λ x. r)) next
 
-not_past : (limits : Limits) (files : Files) → content_length (files gate_file) ≤ limits.positions → recover_log limits files ≡ read_log files nothing 1 (content_length (files gate_file))
-not_past limits files within =
-    let test : nat_lt limits.positions (content_length (files gate_file)) ≡ false = grind (arith, nat_tests) in
-    ap (λ (b : Bool). cond b (Err (gate_file, limits.positions)) (read_log files nothing 1 (content_length (files gate_file)))) test
-
-pub recover_is : (limits : Limits) (files : Files) (log : List Entry) → Recovers 1 files (map encode log) → IsKept log → length log ≤ limits.positions → recover_log limits files ≡ Ok log
-recover_is limits files log r legal within =
-    not_past limits files (omega (arith, r.count, length-map log encode, within))
-    ∙ ap (read_log files nothing 1) (let e : content_length (files gate_file) ≡ length log = omega (arith, r.count, length-map log encode) in e)
-    ∙ reads files nothing 1 log (λ k lt. ap (λ (n : ℕ). files (entry_file n)) (let e : 1 + k ≡ k + 1 = omega arith in e) ∙ r.each k (omega (arith, lt, length-map log encode))) legal.0 legal.1
+-- A log past a position is read, where its entries are in their files.
+pub entries_read : (files : Files) (c : Content) (first : ℕ) (log : List Entry) → Recovers first files (map encode log) → IsKept c first log → run files (entries_in c first (length log)) ≡ Ok log
+entries_read files c first log r kept =
+    entries_are files c first (length log)
+    ∙ reads files c first log (λ k lt. ap (λ (n : ℕ). files (entry_file n)) (let e : first + k ≡ k + first = omega arith in e) ∙ r.each k (omega (arith, lt, length-map log encode))) kept.0 kept.1
 
 -- ---- what is read is in the files, and fits
 
@@ -109,7 +110,7 @@ each_of files c p more u us here rest zero lt = ap (λ (n : ℕ). files (entry_f
 each_of files c p more u us here rest (suc k) lt = ap (λ (n : ℕ). files (entry_file n)) (let e : p + suc k ≡ p + 1 + k = omega arith in e) ∙ rest.each k (omega (arith, lt))
 
 read_one : (files : Files) (c : Content) (p more : ℕ) (log : List Entry) → ((u : Entry) (us : List Entry) → read_log files (after c u) (p + 1) more ≡ Ok us → IsRead files (after c u) (p + 1) more us)
-    → (o : Result Entry ℕ) → entry_in (files (entry_file p)) c p ≡ o → and_more o p (λ u. read_log files (after c u) (p + 1) more) ≡ Ok log → IsRead files c p (suc more) log
+    → (o : Result Entry ℕ) → entry_at (files (entry_file p)) c p ≡ o → and_more o p (λ u. read_log files (after c u) (p + 1) more) ≡ Ok log → IsRead files c p (suc more) log
 read_one files c p more log next (Err at) e is = absurd (cc (is))
 read_one files c p more log next (Ok u) e is =
     let m = more_is (read_log files (after c u) (p + 1) more) u p log is in
@@ -127,30 +128,29 @@ pub read_back : (files : Files) (c : Content) (p count : ℕ) (log : List Entry)
 read_back files c p zero log is =
     let none : [] ≡ log = cc (is) in
     subst (λ (l : List Entry). IsRead files c p zero l) none (record { count_is = refl; each = λ k lt. absurd (omega (arith, lt)); legal = tt; spelled = tt })
-read_back files c p (suc more) log is = read_one files c p more log (λ u us e. read_back files (after c u) (p + 1) more us e) (entry_in (files (entry_file p)) c p) refl is
+read_back files c p (suc more) log is = read_one files c p more log (λ u us e. read_back files (after c u) (p + 1) more us e) (entry_at (files (entry_file p)) c p) refl is
 
--- what is recovered
-pub record IsRecovered (limits : Limits) (image : Files) (log : List Entry) : Type 0 where
-  pub files : Recovers 1 image (map encode log)
-  pub legal : IsKept log
-  pub within : length log ≤ limits.positions
+-- what is read past a position
+pub record IsLog (files : Files) (c : Content) (first count : ℕ) (log : List Entry) : Type 0 where
+  pub count_is : count ≡ length log
+  pub each : (k : ℕ) → k < length (map encode log) → files (entry_file (k + first)) ≡ Some (get_or (map encode log) k [])
+  pub legal : IsKept c first log
 
-pub recovered : (limits : Limits) (files : Files) (log : List Entry) → recover_log limits files ≡ Ok log → IsRecovered limits files log
-recovered limits files log is = by (nat_lt limits.positions (content_length (files gate_file))) refl is
-  where
-    by : (b : Bool) → nat_lt limits.positions (content_length (files gate_file)) ≡ b → cond b (Err (gate_file, limits.positions)) (read_log files nothing 1 (content_length (files gate_file))) ≡ Ok log → IsRecovered limits files log
-    by true t e = absurd (cc (e))
-    by false t e =
-        let r = read_back files nothing 1 (content_length (files gate_file)) log e in
-        let within : content_length (files gate_file) ≤ limits.positions = grind (arith, nat_tests) in
-        record {
-          files = record {
-            count = omega (arith, r.count_is, length-map log encode);
-            each = λ k lt. ap (λ (n : ℕ). files (entry_file n)) (let e : k + 1 ≡ 1 + k = omega arith in e) ∙ r.each k (omega (arith, lt, length-map log encode));
-          };
-          legal = (r.legal, r.spelled);
-          within = omega (arith, within, r.count_is);
-        }
+pub log_back : (files : Files) (c : Content) (first count : ℕ) (log : List Entry) → run files (entries_in c first count) ≡ Ok log → IsLog files c first count log
+log_back files c first count log is =
+    let r = read_back files c first count log (sym (entries_are files c first count) ∙ is) in
+    record {
+      count_is = r.count_is;
+      each = λ k lt. ap (λ (n : ℕ). files (entry_file n)) (let e : k + first ≡ first + k = omega arith in e) ∙ r.each k (omega (arith, lt, length-map log encode));
+      legal = (r.legal, r.spelled);
+    }
+
+asks_parsed : (files : Files) (first : ℕ) (o : Result Entry ℕ) → asked files (parsed (entry_file first) o) ≡ []
+asks_parsed files first (Ok e) = refl
+asks_parsed files first (Err at) = refl
+
+asks_entry : (files : Files) (c : Content) (first : ℕ) → asked files (entry_in c first) ≡ entry_file first ∷ []
+asks_entry files c first = ap (λ (fs : List FileId). entry_file first ∷ fs) (asks_parsed files first (entry_at (files (entry_file first)) c first))
 
 -- ---- a log in two parts
 
@@ -162,52 +162,61 @@ spelled_push : (log : List Entry) (e : Entry) → AreSpelled log → IsSpelled e
 spelled_push [] e spelled good = (good, tt)
 spelled_push (x ∷ xs) e spelled good = (spelled.0, spelled_push xs e spelled.1 good)
 
-pub kept_front : (one two : List Entry) → IsKept (one ++ two) → IsKept one
-kept_front one two kept = (legal_front nothing 1 one two kept.0, spelled_front one two kept.1)
+pub kept_front : (c : Content) (first : ℕ) (one two : List Entry) → IsKept c first (one ++ two) → IsKept c first one
+kept_front c first one two kept = (legal_front c first one two kept.0, spelled_front one two kept.1)
 
-pub kept_push : (log : List Entry) (e : Entry) → IsKept log → e.position ≡ length log + 1 → IsSpelled e → IsTrue (fits (after_all nothing log) e) → IsKept (log ++ e ∷ [])
-kept_push log e kept at good fit = (legal_append nothing 1 log e kept.0 (omega (arith, at)) fit, spelled_push log e kept.1 good)
-
--- ---- images
+pub kept_push : (c : Content) (first : ℕ) (log : List Entry) (e : Entry) → IsKept c first log → e.position ≡ first + length log → IsSpelled e → IsTrue (fits (after_all c log) e) → IsKept c first (log ++ e ∷ [])
+kept_push c first log e kept at good fit = (legal_append c first log e kept.0 at fit, spelled_push log e kept.1 good)
 
 pub map_last : (log : List Entry) (u : Entry) → map encode (log ++ u ∷ []) ≡ map encode log ++ encode u ∷ []
 map_last log u = map-append encode log (u ∷ [])
 
-pub keeps : (log : List Entry) (states : States) → KeepsEntries 1 (map encode log) states → KeepsFiles log states
-keeps log states each k lt = (_, each k (omega (arith, lt, length-map log encode)))
+-- ---- the files that are asked for
 
-keeps_front : (log : List Entry) (u : Entry) (states : States) → KeepsFiles (log ++ u ∷ []) states → KeepsFiles log states
-keeps_front log u states each k lt = each k (omega (arith, lt, length-append log (u ∷ [])))
+-- each entry of a log is still
+abbrev pub KeepsFiles : ℕ → List Entry → States → Type 0
+KeepsFiles first log states = (k : ℕ) → k < length log → (x : FileContent) × (states (entry_file (k + first)) ≡ still x)
 
--- An image of these states recovers to this log, by files that are still.
-abbrev pub GivesLog : Limits → List Entry → States → Files → Type 0
-GivesLog limits log states image = (recover_log limits image ≡ Ok log) × KeepsFiles log states
+pub keeps : (first : ℕ) (log : List Entry) (states : States) → KeepsEntries first (map encode log) states → KeepsFiles first log states
+keeps first log states each k lt = (_, each k (omega (arith, lt, length-map log encode)))
 
--- the same log by another name
-pub gives_as : (limits : Limits) (log other : List Entry) (states : States) (image : Files) → log ≡ other → GivesLog limits log states image → GivesLog limits other states image
-gives_as limits log other states image same gives = subst (λ (l : List Entry). GivesLog limits l states image) same gives
+pub keeps_front : (first : ℕ) (log : List Entry) (u : Entry) (states : States) → KeepsFiles first (log ++ u ∷ []) states → KeepsFiles first log states
+keeps_front first log u states each k lt = each k (omega (arith, lt, length-append log (u ∷ [])))
 
-module _ (limits : Limits) where
-  pub stands_image : (log : List Entry) (states : States) → Stands 1 (map encode log) states → IsKept log → length log ≤ limits.positions → (image : Files) → IsImage states image → GivesLog limits log states image
-  stands_image log states stands legal within image is = (recover_is limits image log (stands_recovers 1 (map encode log) states stands image is) legal within, keeps log states stands.each)
+-- they are the entries' files
+pub log_still : (files : Files) (states : States) (c : Content) (first count : ℕ) (log : List Entry) → run files (entries_in c first count) ≡ Ok log → KeepsFiles first log states → AreStill states (asked files (entries_in c first count))
+log_still files states c first zero log is each = tt
+log_still files states c first (suc more) log is each =
+    let one = split (entry_in c first) (λ e. entries_in (after c e) (first + 1) more >>= λ es. done (e ∷ es)) files log is in
+    let rest = split (entries_in (after c one.first) (first + 1) more) (λ es. done (one.first ∷ es)) files log one.then_is in
+    let same : one.first ∷ rest.first ≡ log = cc (rest.then_is) in
+    let here = each 0 (omega (arith, ap (λ (l : List Entry). length l) same)) in
+    let at_first : IsStill (states (entry_file first)) = (here.0, ap (λ (n : ℕ). states (entry_file n)) (let e : first ≡ 0 + first = omega arith in e) ∙ here.1) in
+    let later = log_still files states (after c one.first) (first + 1) more rest.first rest.first_is (λ k lt.
+    let at = each (suc k) (omega (arith, lt, ap (λ (l : List Entry). length l) same)) in
+    (at.0, ap (λ (n : ℕ). states (entry_file n)) (let e : k + (first + 1) ≡ suc k + first = omega arith in e) ∙ at.1)) in
+    subst (AreStill states) (sym (one.asks ∙ ap₂ (λ (p q : List FileId). p ++ q) (asks_entry files c first) (rest.asks ∙ append-nil (asked files (entries_in (after c one.first) (first + 1) more))))) (at_first, later)
 
-  -- the log with one entry more, or without it
-  module _ (log : List Entry) (u : Entry) (legal : IsKept log) (more : IsKept (log ++ u ∷ [])) (within : length (log ++ u ∷ []) ≤ limits.positions) (image : Files) where
-    abbrev OutOrIn : States → Type 0
-    OutOrIn states = GivesLog limits log states image ⊎ GivesLog limits (log ++ u ∷ []) states image
-
-    shorter : length log ≤ limits.positions
-    shorter = omega (arith, within, length-append log (u ∷ []))
-
-    out_or_in : (states : States) → KeepsFiles (log ++ u ∷ []) states → Recovers 1 image (map encode log) ⊎ Recovers 1 image (map encode log ++ encode u ∷ []) → OutOrIn states
-    out_or_in states kept = ⊎_elim
-        (λ out. inl (recover_is limits image log out legal shorter, keeps_front log u states kept))
-        (λ in_. inr (recover_is limits image (log ++ u ∷ []) (subst (λ (e : List (List ℕ)). Recovers 1 image e) (sym (map_last log u)) in_) more within, kept))
-
-    pub doubts_image : (states : States) → Doubts 1 (map encode log) (encode u) states → IsImage states image → OutOrIn states
-    doubts_image states doubts is =
-        let kept : KeepsFiles (log ++ u ∷ []) states = keeps (log ++ u ∷ []) states (subst (λ (e : List (List ℕ)). KeepsEntries 1 e states) (sym (map_last log u)) doubts.each) in
-        out_or_in states kept (doubts_recovers 1 (map encode log) (encode u) states doubts image is)
-
-    pub adding_image : (before states : States) → Adding 1 (map encode log) (encode u) before states → IsImage states image → OutOrIn states
-    adding_image before states adding is = ⊎_elim (λ stands. inl (stands_image log states stands legal shorter image is)) (λ doubts. doubts_image states doubts is) adding.log
+-- what was read of files that are still stands so
+pub still_log : (states : States) (files : Files) (c : Content) (first count : ℕ) (log : List Entry) → IsImage states files → run files (entries_in c first count) ≡ Ok log → AreStill states (asked files (entries_in c first count)) → KeepsEntries first (map encode log) states
+still_log states files c first count log shows is held k lt =
+    let l = log_back files c first count log is in
+    let x = entry_still states files c first count log is held k (omega (arith, lt, length-map log encode)) in
+    x.1 ∙ ap still (sym (image_still states files (entry_file (k + first)) x.0 shows x.1) ∙ l.each k lt)
+  where
+    entry_still : (states : States) (files : Files) (c : Content) (first count : ℕ) (log : List Entry) → run files (entries_in c first count) ≡ Ok log → AreStill states (asked files (entries_in c first count)) → (k : ℕ) → k < length log → IsStill (states (entry_file (k + first)))
+    entry_still states files c first zero log is held k lt = let none : [] ≡ log = cc (is) in absurd (omega (arith, lt, ap (λ (l : List Entry). length l) none))
+    entry_still states files c first (suc more) log is held k lt =
+        let one = split (entry_in c first) (λ e. entries_in (after c e) (first + 1) more >>= λ es. done (e ∷ es)) files log is in
+        let rest = split (entries_in (after c one.first) (first + 1) more) (λ es. done (one.first ∷ es)) files log one.then_is in
+        let same : one.first ∷ rest.first ≡ log = cc (rest.then_is) in
+        let asks = one.asks ∙ ap₂ (λ (p q : List FileId). p ++ q) (asks_entry files c first) (rest.asks ∙ append-nil (asked files (entries_in (after c one.first) (first + 1) more))) in
+        let all : AreStill states (entry_file first ∷ asked files (entries_in (after c one.first) (first + 1) more)) = subst (AreStill states) asks held in
+        elim (cases_lt 0 k) [
+          | inl later ↦
+              let at : k - 1 + (first + 1) ≡ k + first = omega (arith, later) in
+              subst (λ (n : ℕ). IsStill (states (entry_file n))) at (entry_still states files (after c one.first) (first + 1) more rest.first rest.first_is all.1 (k - 1) (omega (arith, lt, later, ap (λ (l : List Entry). length l) same)))
+          | inr now ↦
+              let at : first ≡ k + first = omega (arith, now) in
+              subst (λ (n : ℕ). IsStill (states (entry_file n))) at all.0
+        ]

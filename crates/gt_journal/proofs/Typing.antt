@@ -238,5 +238,5 @@ log_typed (e ∷ es) c p few legal spelled =
       log_typed es (after c e) (p + 1) (omega (arith, few)) legal.2 spelled.1,
     )
 
-pub entries_typed : (log : List Entry) (c : Content) → length log < 2 ^ 64 → IsLegal c 1 log → AreSpelled log → All IsEntry log
-entries_typed log c few legal spelled = All-from_recursion IsEntry log (log_typed log c 1 (omega (arith, few)) legal spelled)
+pub entries_typed : (log : List Entry) (c : Content) (first : ℕ) → first + length log ≤ 2 ^ 64 → IsLegal c first log → AreSpelled log → All IsEntry log
+entries_typed log c first few legal spelled = All-from_recursion IsEntry log (log_typed log c first few legal spelled)

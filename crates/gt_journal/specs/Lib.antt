@@ -1,4 +1,3 @@
-pub mod Recovery
 pub mod Ledger
 pub mod Histories
 pub mod Loading

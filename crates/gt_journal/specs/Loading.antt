@@ -1,50 +1,49 @@
 -- How the loading of a log ends.
 use Rattle.std.specs.Prelude.{◌≡◌, ◌≢◌, ℕ, ◌≤◌, List, None, Result, Ok, Err, OnOk, IfErr, IsErrOf}
+use Rattle.gt_base.specs.Answers.{Blames}
+use Rattle.gt_base.specs.Loading.{BaseState}
+use Rattle.gt_base.specs.Recovery.{Loaded}
 use Rattle.gt_disk.specs.declared.file_id.FileId.{FileId}
 use Rattle.gt_disk.specs.Files.{Rose}
 use Rattle.gt_log.specs.declared.log_error.LogError.{LogError}
 use Rattle.gt_log.specs.declared.log_error.LogError.TheVariants.{Memory as NoMemory}
 use Rattle.gt_log.specs.declared.mount_cause.MountCause.{MountCause}
-use Rattle.gt_log.specs.declared.mount_cause.MountCause.TheVariants.{DeviceFault, Damaged, Memory}
 use Rattle.gt_model.specs.declared.entry.Entry.{Entry}
-use Rattle.gt_model.specs.Machine.{Recovered, unapplied}
-use Rattle.gt_table.specs.Table.{Tables}
-use Rattle.gt_journal.specs.Ledger.{Ledger}
-use Rattle.gt_journal.specs.Recovery.{Damage}
-
--- Damage is named exactly; a failing disk and want of memory have their own causes.
-abbrev pub Blames : {A : Type 0} → Result A Damage → MountCause → Type 0
-Blames recovered (Damaged file at) = recovered ≡ Err (file, at)
-Blames recovered DeviceFault = Unit {0}
-Blames recovered Memory = Unit {0}
+use Rattle.gt_model.specs.Batches.{next_past}
+use Rattle.gt_model.specs.Machine.{Recovered}
+use Rattle.gt_reading.specs.Reading.{Damage}
+use Rattle.gt_table.specs.Table.{Past, Tables}
+use Rattle.gt_journal.specs.Ledger.{Ledger, ground}
 
 -- an entry of a file, with the file named where it is damaged
 abbrev pub in_file : FileId → Result Entry ℕ → Result Entry Damage
 in_file file (Ok e) = Ok e
 in_file file (Err at) = Err (file, at)
 
--- What is read is this entry, or its damage is named.
-abbrev pub Reads : Result Entry Damage → Result Entry MountCause → Type 0
-Reads read (Ok e) = read ≡ Ok e
-Reads read (Err cause) = Blames read cause
+-- The entries of the files are loaded, with the next free file number, or the first damage is named.
+abbrev pub Loads : Result (List Entry) Damage → Result (Tables × ℕ) MountCause → Type 0
+Loads read (Ok x) = read ≡ Ok x.0.past.log
+Loads read (Err cause) = Blames read cause
 
--- What the files recover to is loaded, or the first damage is named.
-abbrev pub Loads : Result (List Entry) Damage → Result Tables MountCause → Type 0
-Loads recovered (Ok table) = recovered ≡ Ok table.log
-Loads recovered (Err cause) = Blames recovered cause
+-- What was recovered, as a base and the tables over it have it.
+abbrev pub loaded_of : BaseState → Past → Loaded
+loaded_of b past = record { base = record { manifest = b.manifest; repos = past.repos }; log = past.log }
+
+-- A base and a log past it are loaded, or the first damage is named.
+abbrev pub LoadsAll : Result Loaded Damage → Result (BaseState × Tables × ℕ) MountCause → Type 0
+LoadsAll read (Ok x) = read ≡ Ok (loaded_of x.0 x.1.past)
+LoadsAll read (Err cause) = Blames read cause
 
 -- What the files recover to is opened, with nothing in doubt, or the first damage is named.
 abbrev pub Opens : Result Recovered Damage → Result Ledger MountCause → Type 0
-Opens recovered (Ok l) = (recovered ≡ Ok (unapplied l.log)) × (l.doubt ≡ None)
+Opens recovered (Ok l) = (recovered ≡ Ok (ground l)) × (l.doubt ≡ None)
 Opens recovered (Err cause) = Blames recovered cause
 
--- A failing disk is blamed where its count of faults rose, and only there: no fault hides behind another answer.
-pub record HasCause {A : Type 0} (before after : ℕ) (result : Result A MountCause) : Type 0 where
-  pub later : before ≤ after
-  pub failed : result ≡ Err DeviceFault → Rose before after
-  pub others : result ≢ Err DeviceFault → after ≡ before
+-- The next free file number is above each file that an entry has.
+abbrev pub IsNumbered : Ledger → Type 0
+IsNumbered l = l.next ≡ next_past l.manifest_next l.past.log
 
--- The same of an entry that is added.
+-- A failing disk is blamed where its count of faults rose, and only there, of an entry that is added.
 pub record HasAddCause (before after : ℕ) (result : Result (Unit {0}) LogError) : Type 0 where
   pub later : before ≤ after
   pub ok : OnOk result (after ≡ before)

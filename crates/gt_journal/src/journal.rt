@@ -1,6 +1,9 @@
 ghost use Rattle.std.specs.Prelude.{◌≡◌, ◌⊎◌, ◌≤◌, ◌<◌, ◌+◌, ◌++◌, ◌∷◌, [], length, List, true, IsTrue, IfOk, IfErr, OnOk, OnErr, is_some, None, Err};
 ghost use Rattle.std.specs.Option.{ForSome};
 ghost use Rattle.std.proofs.Props.{props};
+ghost use Rattle.gt_base.specs.Answers.{HasCause};
+ghost use Rattle.gt_base.specs.Built.{IsBuilt};
+ghost use Rattle.gt_base.specs.Recovery.{recover};
 ghost use Rattle.gt_disk.specs.Files as files;
 ghost use Rattle.gt_disk.specs.Files.{now};
 ghost use Rattle.gt_disk.specs.Kinds.{gate_file};
@@ -8,20 +11,20 @@ ghost use Rattle.gt_disk.specs.Moments.{Since, Narrows};
 ghost use Rattle.gt_log.specs.Log.{content_length};
 ghost use Rattle.gt_log.specs.declared.mount_cause.MountCause.{MountCause as Cause};
 ghost use Rattle.gt_model.specs.declared.limits.Limits.{Limits as Most};
-ghost use Rattle.gt_model.specs.Contents.{nothing, after_all, fits};
+ghost use Rattle.gt_model.specs.Contents.{fits};
 ghost use Rattle.gt_entry.specs.Fits.{HasSpelling};
-ghost use Rattle.gt_model.specs.Machine.{Pin, SettledEntry, opening, unapplied, with_entry, with_pins};
+ghost use Rattle.gt_model.specs.Machine.{Pin, SettledEntry, opening, with_entry, with_pins};
 ghost use Rattle.gt_sound.specs.Sound.{IsSoundState};
-ghost use Rattle.gt_base.specs.Built.{IsBuilt};
-ghost use Rattle.gt_table.specs.Table.{HasRoomFor};
+ghost use Rattle.gt_table.specs.Table.{HasRoomFor, front, content};
 ghost use Rattle.gt_table.proofs.Rooms.{room_for};
-ghost use Rattle.gt_journal.specs.Ledger.{Stored, state_of, doubt_after};
+ghost use Rattle.gt_base.specs.Held.{HoldsPacks};
+ghost use Rattle.gt_journal.specs.Ledger.{Stored, state_of, ground, changed, front_of, doubt_after};
 ghost use Rattle.gt_journal.specs.Histories.{IsGood, Moves, Settling};
-ghost use Rattle.gt_journal.specs.Loading.{Opens, HasCause, HasAddCause};
-ghost use Rattle.gt_journal.specs.Recovery.{recover};
+ghost use Rattle.gt_journal.specs.Loading.{Opens, IsNumbered, HasAddCause};
 
 use crate::loading::load;
 use crate::spelling::add_entry;
+use gt_base::Base;
 use gt_disk::{Disk, Failed};
 use gt_log::{Log, LogError, MountCause};
 use gt_model::{Entry, Limits};
@@ -29,17 +32,20 @@ use gt_table::Table;
 use std::alloc::Global;
 use std::marker::Model;
 
-/// The log of a disk, its entries and contents in memory, and the entry in doubt, which fits and for which there is room.
+/// The log of a disk past its base, its entries and contents in memory, and the entry in doubt, which fits and for which there
+/// is room.
 #[derive(Drop)]
 pub struct Journal {
     log: Log,
+    base: Base,
     table: Table,
     doubt: Option<Entry>,
-    ghost counts: { log.len ≡ length table.log },
+    next: u64,
+    ghost counts: { log.len ≡ front table.past },
     ghost doubts: { log.in_doubt ≡ is_some doubt },
     ghost built: { ForSome doubt IsBuilt },
-    ghost next: { ForSome doubt (λ entry. entry.position ≡ length table.log + 1) },
-    ghost fit: { ForSome doubt (λ entry. IsTrue (fits (after_all nothing table.log) entry)) },
+    ghost after: { ForSome doubt (λ entry. entry.position ≡ front table.past + 1) },
+    ghost fit: { ForSome doubt (λ entry. IsTrue (fits (content table.past) entry)) },
     ghost room: { ForSome doubt (λ entry. HasRoomFor entry table) } by { Prim.hlevel (props, room_for) },
 }
 
@@ -48,12 +54,13 @@ impl Model for Journal {
 
     ghost Value = { Ledger };
 
-    ghost view = { λ j. record { log = j.table.log; doubt = j.doubt } };
+    ghost view = { λ j. record { past = j.table.past; doubt = j.doubt; epoch = j.base.manifest.epoch; manifest_next = j.base.manifest.next; next = j.next } };
 }
 
 impl Journal {
-    /// Opens what the disk's files recover to. `Damaged` names the first damage: a gate that is longer than the limit, then the
-    /// first entry that is absent, isn't spelled, or doesn't fit. `DeviceFault` comes only of a fault of the disk.
+    /// Opens what the disk's files recover to. `Damaged` names the first damage: a gate or a turn that is longer than its limit,
+    /// then what the manifest of the epoch and the files that it names have, then the first entry past them that is absent,
+    /// isn't spelled, or doesn't fit. `DeviceFault` comes only of a fault of the disk.
     pub fn open<D: Disk>(
         alloc: Global,
         limits: &Limits,
@@ -62,6 +69,7 @@ impl Journal {
         // Over a disk that tells it opens exactly what the files recover to, or names the first damage.
         ensures answer { IsTrue D.tells → Opens (recover limits.now (D.view disk.old).reads) result }
         ensures settled { IfOk result (λ j. j.doubt ≡ None) }
+        ensures numbered { IfOk result IsNumbered }
         ensures cause { HasCause (D.fault_count disk.old) (D.fault_count disk.new) result }
         ensures gate { IsTrue D.tells → limits.now.positions < content_length ((D.view disk.old).reads gate_file)
             → (result ≡ Err (Cause.Damaged gate_file limits.now.positions)) ⊎ (result ≡ Err Cause.DeviceFault) }
@@ -74,16 +82,18 @@ impl Journal {
         // A disk that may be handed in may be handed in again at each moment, and has what is opened.
         ensures good { IsTrue D.tells → IsGood limits.now (now (D.view disk.old)) → Since (IsGood limits.now) (D.view disk.old) (D.view disk.new) }
         ensures good_end { IsTrue D.tells → IsGood limits.now (now (D.view disk.old)) → IsGood limits.now (now (D.view disk.new)) }
-        ensures stored { IsTrue D.tells → IsGood limits.now (now (D.view disk.old)) → IfOk result (λ j. Stored limits.now (opening (unapplied j.log)) (now (D.view disk.new)) × IsSoundState (opening (unapplied j.log))) }
+        ensures stored { IsTrue D.tells → IsGood limits.now (now (D.view disk.old)) → IfOk result (λ j. Stored limits.now (opening (ground j)) (now (D.view disk.new)) × IsSoundState (opening (ground j)) × HoldsPacks j.past.repos (now (D.view disk.new))) }
     {
         let Ok(log) = Log::mount(disk) else {
             return Err(MountCause::DeviceFault);
         };
         match load(alloc, limits, &log, disk) {
-            Ok(table) => Ok(Journal {
+            Ok((base, table, next)) => Ok(Journal {
                 log,
+                base,
                 table,
                 doubt: None,
+                next,
             }),
             Err(cause) => Err(cause),
         }
@@ -91,7 +101,7 @@ impl Journal {
 
     /// The entries, and what they have made at each position. An entry in doubt isn't among them.
     pub fn table(&self) -> &Table
-        ensures { result.now.log ≡ self.now.log }
+        ensures { result.now.past ≡ self.now.past }
     {
         &self.table
     }
@@ -101,8 +111,10 @@ impl Journal {
         // For whatever is live, the machine's state is settled.
         ensures settles { OnOk result ((pins : List Pin) → SettledEntry true (state_of self.old pins) (state_of self.new pins)) }
         ensures in_doubt { OnErr result (IsTrue (is_some self.old.doubt)) }
-        ensures longer { length self.old.log ≤ length self.new.log }
         ensures settled { OnOk result (self.new.doubt ≡ None) }
+        ensures begin { self.new.past.begin ≡ self.old.past.begin }
+        ensures repos { self.new.past.repos ≡ self.old.past.repos }
+        ensures longer { front_of self.old ≤ front_of self.new }
         ensures same { OnErr result (self.new ≡ self.old) }
         ensures idle { self.old.doubt ≡ None → disk.new ≡ disk.old }
         ensures cause { files.HasCause (D.fault_count disk.old) (D.fault_count disk.new) result }
@@ -139,14 +151,16 @@ impl Journal {
         entry: Entry,
     ) -> Result<(), LogError>
         requires settled { self.old.doubt ≡ None }
-        requires next { entry.position ≡ length self.old.log + 1 }
+        requires next { entry.position ≡ front_of self.old + 1 }
         requires built { IsBuilt entry }
         requires spelled { HasSpelling entry }
-        requires fit { IsTrue (fits (after_all nothing self.old.log) entry) }
-        requires room { length self.old.log < limits.now.positions }
-        ensures ok { OnOk result ((self.new.log ≡ self.old.log ++ entry ∷ []) × (self.new.doubt ≡ None)) }
-        ensures err { IfErr result (λ e. (self.new.log ≡ self.old.log) × (self.new.doubt ≡ doubt_after e entry)) }
-        ensures longer { length self.old.log ≤ length self.new.log }
+        requires fit { IsTrue (fits (content self.old.past) entry) }
+        requires room { front_of self.old < limits.now.positions }
+        ensures ok { OnOk result (self.new ≡ changed self.old (self.old.past.log ++ entry ∷ []) None) }
+        ensures err { IfErr result (λ e. self.new ≡ changed self.old self.old.past.log (doubt_after e entry)) }
+        ensures begin { self.new.past.begin ≡ self.old.past.begin }
+        ensures repos { self.new.past.repos ≡ self.old.past.repos }
+        ensures longer { front_of self.old ≤ front_of self.new }
         ensures cause { HasAddCause (D.fault_count disk.old) (D.fault_count disk.new) result }
         ensures later { (D.view disk.old).clock ≤ (D.view disk.new).clock }
         ensures counted { D.call_count disk.new ≤ D.call_count disk.old + 4 }

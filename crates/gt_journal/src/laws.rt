@@ -1,14 +1,15 @@
 // Laws of the definitions alone. Each is the contract of a function that does nothing.
-ghost use Rattle.std.specs.Prelude.{◌≡◌, ◌<◌, ◌^◌, ℕ, List, Some, None, length};
+ghost use Rattle.std.specs.Prelude.{◌≡◌, ◌≤◌, ◌+◌, ◌^◌, ℕ, List, Some, None, length};
 ghost use Rattle.gt_disk.specs.Files.{Files, States, IsImage, still};
 ghost use Rattle.gt_model.specs.declared.limits.Limits.{Limits};
-ghost use Rattle.gt_model.specs.Contents.{nothing, at, found};
-ghost use Rattle.gt_model.specs.Machine.{opening, unapplied};
+ghost use Rattle.gt_model.specs.Contents.{found};
+ghost use Rattle.gt_model.specs.Machine.{opening};
 ghost use Rattle.gt_sound.specs.Sound.{IsSoundState};
 ghost use Rattle.gt_objset.specs.declared.place.Place.{Place};
 ghost use Rattle.gt_places.specs.Reading.{piece, IsRecordOf};
-ghost use Rattle.gt_table.specs.Table.{place_at};
-ghost use Rattle.gt_journal.specs.Ledger.{Ledger, StoredBy};
+ghost use Rattle.gt_base.specs.Held.{HoldsPacks};
+ghost use Rattle.gt_table.specs.Table.{content_at, place_at};
+ghost use Rattle.gt_journal.specs.Ledger.{Ledger, StoredBy, ground};
 ghost use Rattle.gt_journal.specs.Histories.{IsGood};
 
 /// What a stop leaves of a disk that may be handed in may be handed in itself.
@@ -21,11 +22,11 @@ pub fn empty_disks_are_good()
     ensures { (limits : Limits) → IsGood limits (λ file. still None) }
 {}
 
-/// Whatever a stop leaves of files that have a sound log holds, at the place of each object that is seen at a position, the
-/// record that is found there, which is one of that name.
+/// Whatever a stop leaves of files that have a sound base and its log holds, at the place of each object that is seen at a
+/// position, the record that is found there, which is one of that name.
 pub fn placed_records_are_held()
-    ensures held { (limits : Limits) (l : Ledger) (states : States) (image : Files) (position : ℕ) (path name whole : List ℕ) (place : Place) → length l.log < 2 ^ 64 → StoredBy limits l states → IsSoundState (opening (unapplied l.log)) → IsImage states image
-        → place_at l.log position path name ≡ Some place → found (at 0 nothing l.log position) path name ≡ Some whole → piece (image place.file) place ≡ whole }
-    ensures good { (limits : Limits) (l : Ledger) (states : States) (image : Files) (position : ℕ) (path name whole : List ℕ) (place : Place) → length l.log < 2 ^ 64 → StoredBy limits l states → IsSoundState (opening (unapplied l.log)) → IsImage states image
-        → place_at l.log position path name ≡ Some place → found (at 0 nothing l.log position) path name ≡ Some whole → IsRecordOf name whole }
+    ensures held { (limits : Limits) (l : Ledger) (states : States) (image : Files) (position : ℕ) (path name whole : List ℕ) (place : Place) → l.past.begin + 1 + length l.past.log ≤ 2 ^ 64 → StoredBy limits (ground l) l.doubt states → HoldsPacks l.past.repos states → IsSoundState (opening (ground l)) → IsImage states image
+        → place_at l.past position path name ≡ Some place → found (content_at l.past position) path name ≡ Some whole → piece (image place.file) place ≡ whole }
+    ensures good { (limits : Limits) (l : Ledger) (states : States) (image : Files) (position : ℕ) (path name whole : List ℕ) (place : Place) → l.past.begin + 1 + length l.past.log ≤ 2 ^ 64 → StoredBy limits (ground l) l.doubt states → HoldsPacks l.past.repos states → IsSoundState (opening (ground l)) → IsImage states image
+        → place_at l.past position path name ≡ Some place → found (content_at l.past position) path name ≡ Some whole → IsRecordOf name whole }
 {}

@@ -1,63 +1,92 @@
-ghost use Rattle.std.specs.Prelude.{◌≡◌, ◌≤◌, ◌<◌, length, Err, Some, IsTrue, IfOk};
-ghost use Rattle.gt_disk.specs.Files.{Quiet};
-ghost use Rattle.gt_disk.specs.Kinds.{gate_file, entry_file};
+ghost use Rattle.std.specs.Prelude.{◌≡◌, ◌≤◌, ◌<◌, ◌+◌, ◌-◌, length, Err, Some, IsTrue, IfOk};
+ghost use Rattle.gt_base.specs.Answers.{HasCause, Reads};
+ghost use Rattle.gt_base.specs.Built.{is_built, IsBuilt};
+ghost use Rattle.gt_base.specs.Entries.{entry_of as entry_at, entries_in};
+ghost use Rattle.gt_base.specs.Held.{content_of};
+ghost use Rattle.gt_base.specs.Recovery.{recovery};
+ghost use Rattle.gt_disk.specs.Files.{Quiet, now, still};
+ghost use Rattle.gt_disk.specs.Kinds.{gate_file, turn_file, entry_file};
+ghost use Rattle.gt_disk.specs.Moments.{Runs, Lasting, Narrows};
 ghost use Rattle.gt_log.specs.Log.{content_length};
 ghost use Rattle.gt_log.specs.declared.mount_cause.MountCause.{MountCause};
-ghost use Rattle.gt_model.specs.Contents.{nothing, after_all, fits};
+ghost use Rattle.gt_model.specs.Batches.{next_past};
+ghost use Rattle.gt_model.specs.Contents.{fits};
 ghost use Rattle.gt_entry.specs.Answers as answers;
-ghost use Rattle.gt_journal.specs.Loading.{HasCause, Loads, Reads, in_file};
-ghost use Rattle.gt_journal.specs.Recovery.{recover_log, read_log, entry_in};
-ghost use Rattle.gt_base.specs.Built.{is_built, IsBuilt};
+ghost use Rattle.gt_reading.specs.Reading.{run};
+ghost use Rattle.gt_table.specs.Table.{front, content};
+ghost use Rattle.gt_journal.specs.Loading.{Loads, LoadsAll, in_file};
 
 use crate::spelling::decode;
+use gt_base::{Base, BaseContent, is_built};
 use gt_disk::{Disk, DiskError, GATE, entry_file};
 use gt_entry::EntryError;
 use gt_log::{Log, MountCause};
-use gt_model::{Change, Entry, Limits};
+use gt_model::{Entry, Limits};
 use gt_table::Table;
 use std::alloc::Global;
 
-/// Reads a log whose gate isn't longer than the limit.
+/// Reads the base of a disk, and the entries past it. The gate may not be longer than the limit.
 pub(crate) fn load<D: Disk>(
     alloc: Global,
     limits: &Limits,
     log: &Log,
     disk: &mut D,
-) -> Result<Table, MountCause>
-    ensures quiet { IsTrue D.tells → Quiet (D.view disk.old) (D.view disk.new) }
+) -> Result<(Base, Table, u64), MountCause>
     ensures later { (D.view disk.old).clock ≤ (D.view disk.new).clock }
     ensures cause { HasCause (D.fault_count disk.old) (D.fault_count disk.new) result }
     ensures gate { limits.now.positions < log.now.len → result ≡ Err (MountCause.Damaged gate_file limits.now.positions) }
-    ensures count { IfOk result (λ table. log.now.len ≡ length table.log) }
-    ensures loads { IsTrue D.tells → log.now.len ≡ content_length ((D.view disk.old).reads gate_file) → Loads (recover_log limits.now (D.view disk.old).reads) result }
+    ensures begin { IfOk result (λ x. x.1.past.begin ≡ x.0.manifest.applied) }
+    ensures numbered { IfOk result (λ x. x.2 ≡ next_past x.0.manifest.next x.1.past.log) }
+    ensures count { IfOk result (λ x. log.now.len ≡ front x.1.past) }
+    ensures reads { IsTrue D.tells → (D.view disk.new).reads ≡ (D.view disk.old).reads }
+    ensures moments { IsTrue D.tells → Narrows (D.view disk.old) (D.view disk.new) }
+    ensures run { IsTrue D.tells → Runs turn_file (Lasting (now (D.view disk.old) turn_file) ((D.view disk.old).reads turn_file)) (D.view disk.old) (D.view disk.new) }
+    ensures turn { IsTrue D.tells → IfOk result (λ _. now (D.view disk.new) turn_file ≡ still ((D.view disk.old).reads turn_file)) }
+    ensures loads { IsTrue D.tells → log.now.len ≡ content_length ((D.view disk.old).reads gate_file) → LoadsAll (run (D.view disk.old).reads (recovery limits.now)) result }
 {
-    let count = log.len();
-    if count > limits.positions {
+    let gate = log.len();
+    if gate > limits.positions {
         return Err(MountCause::Damaged {
             file: GATE,
             at: limits.positions,
         });
     }
-    read_entries(alloc, log, disk, count)
+    let (base, repos) = match Base::load(alloc, limits, gate, disk) {
+        Ok(loaded) => loaded,
+        Err(cause) => return Err(cause),
+    };
+    let (begin, next) = (base.manifest().applied, base.manifest().next);
+    match read_entries(alloc, log, disk, begin, next, &repos) {
+        Ok((table, next)) => Ok((base, table, next)),
+        Err(cause) => Err(cause),
+    }
 }
 
-/// Reads as many entries of a log.
+/// Reads the entries of a log past a base, and the next free file number over them, from that of the base's manifest on: an
+/// entry of a kind that is built has no file.
 fn read_entries<D: Disk>(
     alloc: Global,
     log: &Log,
     disk: &mut D,
-    count: u64,
-) -> Result<Table, MountCause>
+    begin: u64,
+    first_free: u64,
+    repos: &BaseContent,
+) -> Result<(Table, u64), MountCause>
+    requires { begin ≤ log.now.len }
     ensures quiet { IsTrue D.tells → Quiet (D.view disk.old) (D.view disk.new) }
     ensures later { (D.view disk.old).clock ≤ (D.view disk.new).clock }
     ensures cause { HasCause (D.fault_count disk.old) (D.fault_count disk.new) result }
-    ensures count { IfOk result (λ table. count ≡ length table.log) }
-    ensures loads { IsTrue D.tells → Loads (read_log (D.view disk.old).reads nothing 1 count) result }
+    ensures begin { IfOk result (λ x. x.0.past.begin ≡ begin) }
+    ensures repos { IfOk result (λ x. x.0.past.repos ≡ repos.now) }
+    ensures count { IfOk result (λ x. log.now.len ≡ front x.0.past) }
+    ensures numbered { IfOk result (λ x. x.1 ≡ next_past first_free x.0.past.log) }
+    ensures loads { IsTrue D.tells → Loads (run (D.view disk.old).reads (entries_in (content_of repos.now) (begin + 1) (log.now.len - begin))) result }
 {
-    let Ok(mut table) = Table::new(alloc) else {
+    let Ok(mut table) = Table::over(alloc, begin, repos) else {
         return Err(MountCause::Memory);
     };
-    for n in 0..count {
+    let mut next = first_free;
+    for n in begin..log.len() {
         match read_entry(alloc, log, disk, n + 1, &table) {
             Err(cause) => return Err(cause),
             Ok(entry) => {
@@ -65,10 +94,11 @@ fn read_entries<D: Disk>(
                     return Err(MountCause::Memory);
                 }
                 table.add(entry);
+                next = next.max(1);
             }
         }
     }
-    Ok(table)
+    Ok((table, next))
 }
 
 /// The entry of a file that is there, spells an entry at its position, and fits what the log has made.
@@ -84,8 +114,8 @@ fn read_entry<D: Disk>(
     ensures cause { HasCause (D.fault_count disk.old) (D.fault_count disk.new) result }
     ensures built { IfOk result IsBuilt }
     ensures next { IfOk result (λ entry. entry.position ≡ number) }
-    ensures fit { IfOk result (λ entry. IsTrue (fits (after_all nothing table.now.log) entry)) }
-    ensures entry { IsTrue D.tells → Reads (in_file (entry_file number) (entry_in ((D.view disk.old).reads (entry_file number)) (after_all nothing table.now.log) number)) result }
+    ensures fit { IfOk result (λ entry. IsTrue (fits (content table.now.past) entry)) }
+    ensures entry { IsTrue D.tells → Reads (in_file (entry_file number) (entry_at ((D.view disk.old).reads (entry_file number)) (content table.now.past) number)) result }
 {
     match log.read(alloc, disk, number) {
         Err(DiskError::Failed) => Err(MountCause::DeviceFault),
@@ -113,8 +143,8 @@ fn damaged(number: u64, at: usize) -> MountCause
 fn fitting(alloc: Global, table: &Table, number: u64, bytes: &[u8]) -> Result<Entry, EntryError>
     ensures built { IfOk result IsBuilt }
     ensures next { IfOk result (λ entry. entry.position ≡ number) }
-    ensures fit { IfOk result (λ e. IsTrue (fits (after_all nothing table.now.log) e)) }
-    ensures entry { answers.Reads result (entry_in (Some bytes.now) (after_all nothing table.now.log) number) }
+    ensures fit { IfOk result (λ e. IsTrue (fits (content table.now.past) e)) }
+    ensures entry { answers.Reads result (entry_at (Some bytes.now) (content table.now.past) number) }
 {
     let entry = decode(alloc, number, bytes)?;
     if is_built(&entry.change) && table.fits(&entry) {
@@ -122,14 +152,4 @@ fn fitting(alloc: Global, table: &Table, number: u64, bytes: &[u8]) -> Result<En
     } else {
         Err(EntryError::BadEntry { at: 0 })
     }
-}
-
-/// Whether entries of this kind are made and read yet.
-fn is_built(change: &Change) -> bool
-    ensures { result ≡ is_built change.now }
-{
-    matches!(
-        change,
-        Change::Create { .. } | Change::Delete | Change::Write { .. }
-    )
 }

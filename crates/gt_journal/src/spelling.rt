@@ -45,10 +45,10 @@ pub(crate) fn add_entry<D: Disk>(
     ensures cause { HasLogCause (D.fault_count disk.old) (D.fault_count disk.new) result }
     ensures later { (D.view disk.old).clock ≤ (D.view disk.new).clock }
     ensures counted { D.call_count disk.new ≤ D.call_count disk.old + 4 }
-    ensures any_moment { IsTrue D.tells → (entries : List (List ℕ)) → log.old.len + 1 ≡ length entries + 1 → Stands 1 entries (now (D.view disk.old))
-        → Since (AddMoment result 1 entries (encode entry.now) (now (D.view disk.old))) (D.view disk.old) (D.view disk.new) }
-    ensures after { IsTrue D.tells → (entries : List (List ℕ)) → log.old.len + 1 ≡ length entries + 1 → Stands 1 entries (now (D.view disk.old))
-        → AfterAdd result 1 entries (encode entry.now) (now (D.view disk.new)) }
+    ensures any_moment { IsTrue D.tells → (first : ℕ) (entries : List (List ℕ)) → log.old.len + 1 ≡ length entries + first → Stands first entries (now (D.view disk.old))
+        → Since (AddMoment result first entries (encode entry.now) (now (D.view disk.old))) (D.view disk.old) (D.view disk.new) }
+    ensures after { IsTrue D.tells → (first : ℕ) (entries : List (List ℕ)) → log.old.len + 1 ≡ length entries + first → Stands first entries (now (D.view disk.old))
+        → AfterAdd result first entries (encode entry.now) (now (D.view disk.new)) }
 {
     match encode_entry(alloc, entry) {
         Ok(bytes) => log.add(disk, &bytes),

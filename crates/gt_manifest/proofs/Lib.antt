@@ -1,4 +1,5 @@
 pub mod WalkLemmas
+pub mod WholeLemmas
 pub mod PutLemmas
 pub mod FieldLemmas
 pub mod ManifestLemmas

@@ -13,6 +13,7 @@ use Rattle.gt_manifest.specs.Spelling.{manifest, FitsFields}
 use Rattle.gt_manifest.specs.Reading.{top_at, fields_of}
 use Rattle.gt_manifest.specs.Whole.{whole, sound, manifest_of, Fits, IsSpelledBy}
 use Rattle.gt_manifest.specs.Answers.{Reads}
+use Rattle.gt_manifest.proofs.WholeLemmas.{whole_is, whole_goes}
 use Rattle.gt_manifest.proofs.FieldLemmas.{top_field}
 
 fields_take : (bytes : List ℕ) (x : Version × Manifest) → IsBytes bytes → fields_of bytes ≡ Ok x → FitsFields x.0 x.1 × (bytes ≡ manifest x.0 x.1)
@@ -50,8 +51,8 @@ went_on : {A B : Type 0} (r : Result A ℕ) (b c : B) → (r >>= λ s. Ok b) ≡
 went_on (Ok s) b c e = (refl, ok_is b c e)
 went_on (Err d) b c e = absurd cc
 
-manifest_again : (v : Version) (m : Manifest) → Fits v m → manifest_of (manifest v m) ≡ Ok m
-manifest_again v m fits = rw (fields_again v m fits.0) (goes_on (whole v m) m fits.1)
+pub manifest_again : (v : Version) (m : Manifest) → Fits v m → manifest_of (manifest v m) ≡ Ok m
+manifest_again v m fits = rw (fields_again v m fits.0) (goes_on (whole v m) m (whole_goes v m fits.1))
 
 manifest_takes : (bytes : List ℕ) (m : Manifest) → IsBytes bytes → manifest_of bytes ≡ Ok m → IsSpelledBy bytes m
 manifest_takes bytes m good e =
@@ -59,7 +60,7 @@ manifest_takes bytes m good e =
     let f = fields_take bytes a.0 good a.1 in
     let w = went_on (whole a.0.0 a.0.1) a.0.1 m a.2 in
     let P : Manifest → Type 0 = λ y. IsSpelledBy bytes y in
-    subst P w.1 (record { version = a.0.0; fits = (f.0, w.0); bytes_are = f.1 })
+    subst P w.1 (record { version = a.0.0; fits = (f.0, whole_is a.0.0 a.0.1 w.0); bytes_are = f.1 })
 
 -- ---- what the decoder answers
 

@@ -1,6 +1,6 @@
 -- What only the whole list of repositories decides, with the place of the first field that may not stand there.
-use Rattle.std.specs.Prelude.{◌≡◌, ℕ, ◌+◌, Bool, true, List, [], ◌∷◌, length, Option, Some, None, Result, Ok, Err, is_ok, nat_le, nat_lt, ◌&&◌, ◌==◌, not, if◌then◌else◌, bytes_eq}
-use Rattle.std.specs.List.{list_any}
+use Rattle.std.specs.Prelude.{◌≡◌, ℕ, ◌+◌, ◌<◌, ◌≤◌, Bool, true, false, List, [], ◌∷◌, ◌++◌, length, map, All, Any, Option, Some, None, Result, Ok, Err, nat_eq, nat_le, nat_lt, ◌&&◌, ◌==◌, not, if◌then◌else◌, bytes_eq, ⊤}
+use Rattle.std.specs.List.{list_any, flat_map, IsDistinct}
 use Rattle.std.specs.Ordering.{nat_cmp}
 use Rattle.std.specs.BTreeSet.{insert_key}
 use Rattle.std.specs.BTreeMap.{is_at}
@@ -77,9 +77,45 @@ sound x = whole x.0 x.1 >>= λ s. Ok x.1
 abbrev pub manifest_of : List ℕ → Result Manifest ℕ
 manifest_of bytes = fields_of bytes >>= λ x. sound x
 
+-- ---- what has a spelling
+
+-- the number of the packed file; 0 is none
+abbrev pub packed_number : ℕ → List ℕ
+packed_number n = if n == 0 then [] else n ∷ []
+
+abbrev pub file_of : Loose → ℕ
+file_of l = l.file
+
+-- the file numbers that a repository names, in the order of its fields
+abbrev pub file_numbers : RepoFiles → List ℕ
+file_numbers r = r.packs ++ (packed_number r.packed ++ map file_of r.loose)
+
+-- from 1 up to below the next one
+abbrev pub IsFileNumber : ℕ → ℕ → Type 0
+IsFileNumber next n = (1 ≤ n) × (n < next)
+
+-- It is a pool, and has this path.
+abbrev pub IsPoolAt : List ℕ → RepoFiles → Type 0
+IsPoolAt path r = (r.is_pool ≡ true) × (r.path ≡ path)
+
+-- Nothing is asked where none is named. Else it isn't a pool itself, and the list has that pool.
+abbrev pub MayHavePool : List RepoFiles → Bool → Option (List ℕ) → Type 0
+MayHavePool all is_pool None = ⊤
+MayHavePool all is_pool (Some path) = (is_pool ≡ false) × Any (IsPoolAt path) all
+
+-- A pool has no pool, and the pool of a member is in the list and is a pool.
+abbrev pub PoolStands : List RepoFiles → RepoFiles → Type 0
+PoolStands all r = MayHavePool all r.is_pool r.pool
+
+-- What only the whole list decides: each file number is from 1 up to below the next one and stands once, and pools stand.
+pub record IsWhole (m : Manifest) : Type 0 where
+  pub numbers : All (IsFileNumber m.next) (flat_map file_numbers m.repos)
+  pub once : IsDistinct nat_eq (flat_map file_numbers m.repos)
+  pub pools : All (PoolStands m.repos) m.repos
+
 -- It has this spelling.
 abbrev pub Fits : Version → Manifest → Type 0
-Fits v m = FitsFields v m × (is_ok (whole v m) ≡ true)
+Fits v m = FitsFields v m × IsWhole m
 
 -- The bytes are a spelling of it.
 pub record IsSpelledBy (bytes : List ℕ) (m : Manifest) : Type 0 where

@@ -1,6 +1,6 @@
 -- What is promised of a call, from what its parts say.
 use Rattle.std.proofs.Common.{◌≡◌, inl, inr, ℕ, ◌+◌, ◌≤◌, Bool, false, List, [], ◌∷◌, ◌++◌, Result, Ok, Err, refl, sym, ◌∙◌, ap, subst, arith, IsTrue}
-use Rattle.gt_disk.specs.Files.{View}
+use Rattle.gt_disk.specs.Files.{View, now}
 use Rattle.gt_model.specs.declared.done.Done.{Done}
 use Rattle.gt_model.specs.declared.event.Event.{Event}
 use Rattle.gt_model.specs.declared.event.Event.TheVariants.{Create, Delete, Link, Begin, GetRef, ListRefs, Cat, Commit, Abort, HouseOpen, HouseStep, HouseCommit, Apply, Trim, Sweep}
@@ -15,7 +15,9 @@ use Rattle.gt_model.specs.Machine.{State, Step, StepOnAny, RunsOut, is_asked, is
 use Rattle.gt_sound.specs.Sound.{IsKnown}
 use Rattle.gt_history.specs.Runs.{KeepsPast}
 use Rattle.gt_history.proofs.Runs as runs
-use Rattle.gt_journal.specs.Recovery.{recover, Keeps, counters}
+use Rattle.gt_base.specs.declared.held.BaseRepo.{BaseRepo}
+use Rattle.gt_base.specs.Recovery.{recover, Keeps, counters}
+use Rattle.gt_base.specs.Held.{HoldsPacks}
 use Rattle.gt_journal.specs.Ledger.{Stored}
 use Rattle.gt_journal.specs.Histories.{Moves, IsHistory}
 use Rattle.gt_journal.proofs.Images.{recovered_legal, stored_gives}
@@ -24,7 +26,7 @@ use Rattle.gt_act.specs.Causes.{CallCause, IsLike, settling_calls}
 use Rattle.gt_part.specs.Shown.{Shown, memory, Stands, HasRun, Continues, OneEvent, turn_of}
 use Rattle.gt_act.proofs.Causes.{sure_cause}
 use Rattle.gt_act.proofs.Stepping.{stops}
-use Rattle.gt_part.proofs.Histories.{counts_more, continues}
+use Rattle.gt_part.proofs.Histories.{counts_more, continues, packs_kept}
 
 -- a refusal is kept as it is
 pub kept_refusal : (s : State) (e : Event) (refusal : Refusal) → kept s e (Err refusal) ≡ Err refusal
@@ -103,9 +105,10 @@ module _ {D : Type 0} (tells : Bool) (view : D → View) (fault_count call_count
       → CallCause (fault_count old.disk) (fault_count new.disk) answer
       → call_count new.disk ≤ call_count old.disk + settling_calls old.ledger.doubt + own_calls e
       → (IsTrue tells → Moves old.limits (memory old) (memory new) (view old.disk) (view new.disk))
+      → new.ledger.past.repos ≡ old.ledger.past.repos
       → (IsTrue tells → (start : State) (begin : ℕ) (history : List Happening) → HasRun view start begin history old → Step old.limits (memory old) e answer (memory new))
       → CalledSo answer old new
-  told_called old new answer told held tick tick_is held_is number limits opening trail known step alike like exact cause counted moves tells_step =
+  told_called old new answer told held tick tick_is held_is number limits opening trail known step alike like exact cause counted moves repos tells_step =
       record {
         number = number;
         limits = limits;
@@ -135,14 +138,16 @@ module _ {D : Type 0} (tells : Bool) (view : D → View) (fault_count call_count
           let moved : Moves old.limits s (memory new) (view old.disk) (view new.disk) = subst (λ (s : State). Moves old.limits s (memory new) (view old.disk) (view new.disk)) here (moves t) in
           let stepped : Step old.limits s e answer (memory new) = subst (λ (s : State). Step old.limits s e answer (memory new)) here (tells_step t start begin history run) in
           let more : IsHistory old.limits start begin (event turn (memory new) ∷ history) (view new.disk) (old.trail ++ turn ∷ []) =
-          runs.event_more (recover old.limits) Keeps counters (recovered_legal old.limits) (Stored old.limits) (stored_gives old.limits) old.limits start begin history (view old.disk) old.trail run.1 (view new.disk) (memory new) turn refl known (answer, stepped, refl) moved in
+          runs.event_more (recover old.limits) (Keeps old.limits) counters (recovered_legal old.limits) (Stored old.limits) (stored_gives old.limits) old.limits start begin history (view old.disk) old.trail run.1 (view new.disk) (memory new) turn refl known (answer, stepped, refl) moved.0 in
           let past : KeepsPast (view old.disk) (view new.disk) =
-          runs.past_event (recover old.limits) Keeps counters (recovered_legal old.limits) (Stored old.limits) (stored_gives old.limits) old.limits start begin history (view old.disk) old.trail run.1 (view new.disk) (memory new) moved in
+          runs.past_event (recover old.limits) (Keeps old.limits) counters (recovered_legal old.limits) (Stored old.limits) (stored_gives old.limits) old.limits start begin history (view old.disk) old.trail run.1 (view new.disk) (memory new) moved.0 in
           let whole : IsHistory new.limits start begin (event turn (memory new) ∷ history) (view new.disk) new.trail =
           subst (λ (l : Limits). IsHistory l start begin (event turn (memory new) ∷ history) (view new.disk) new.trail) (sym limits)
           (subst (λ (tr : List Turn). IsHistory old.limits start begin (event turn (memory new) ∷ history) (view new.disk) tr) (sym (trail_at s here)) more) in
+          let packs : HoldsPacks new.ledger.past.repos (now (view new.disk)) =
+          subst (λ (r : List BaseRepo). HoldsPacks r (now (view new.disk))) (sym repos) (packs_kept old.ledger.past.repos (view old.disk) (view new.disk) (moved.1 run.1.stored) run.2) in
           continues view start begin history (OneEvent old.limits who e answer (view new.disk).clock s) (event turn (memory new) ∷ []) old new limits
-          (record { after = (memory new); step = stepped; happened = inl refl }) past (refl, whole)
+          (record { after = (memory new); step = stepped; happened = inl refl }) past (refl, whole, packs)
 
   -- The same where a part gave the answer, and where the record was added behind a copy of the trail.
   pub read_called : (old new : Shown D) (answer given told held : Result Done Refusal) (tick : ℕ) (trail : List Turn) (asked : Event) → asked ≡ e → answer ≡ given → held ≡ kept (memory old) e given → tick ≡ (view new.disk).clock
@@ -152,13 +157,14 @@ module _ {D : Type 0} (tells : Bool) (view : D → View) (fault_count call_count
       → CallCause (fault_count old.disk) (fault_count new.disk) given
       → call_count new.disk ≤ call_count old.disk + settling_calls old.ledger.doubt + own_calls e
       → (IsTrue tells → Moves old.limits (memory old) (memory new) (view old.disk) (view new.disk))
+      → new.ledger.past.repos ≡ old.ledger.past.repos
       → (IsTrue tells → (start : State) (begin : ℕ) (history : List Happening) → HasRun view start begin history old → Step old.limits (memory old) e given (memory new))
       → CalledSo answer old new
-  read_called old new answer given told held tick trail asked same_event said held_is tick_is number limits opening same more known step alike like exact cause counted moves tells_step =
+  read_called old new answer given told held tick trail asked same_event said held_is tick_is number limits opening same more known step alike like exact cause counted moves repos tells_step =
       let more_is : new.trail ≡ old.trail ++ turn_of who e held tick ∷ [] =
       more ∙ ap (λ (a : Event). trail ++ turn_of who a held tick ∷ []) same_event ∙ ap (λ (t : List Turn). t ++ turn_of who e held tick ∷ []) same in
       subst (λ (a : Result Done Refusal). CalledSo a old new) (sym said)
-      (told_called old new given told held tick tick_is held_is number limits opening more_is known step alike like exact cause counted moves tells_step)
+      (told_called old new given told held tick tick_is held_is number limits opening more_is known step alike like exact cause counted moves repos tells_step)
 
   -- The same where the machine takes its step with what is answered.
   pub called : (old new : Shown D) (answer given held : Result Done Refusal) (tick : ℕ) (trail : List Turn) (asked : Event) → asked ≡ e → answer ≡ given → held ≡ kept (memory old) e given → tick ≡ (view new.disk).clock
@@ -167,6 +173,7 @@ module _ {D : Type 0} (tells : Bool) (view : D → View) (fault_count call_count
       → CallCause (fault_count old.disk) (fault_count new.disk) given
       → call_count new.disk ≤ call_count old.disk + settling_calls old.ledger.doubt + own_calls e
       → (IsTrue tells → Moves old.limits (memory old) (memory new) (view old.disk) (view new.disk))
+      → new.ledger.past.repos ≡ old.ledger.past.repos
       → CalledSo answer old new
-  called old new answer given held tick trail asked same_event said held_is tick_is number limits opening same more known step cause counted moves =
-      read_called old new answer given given held tick trail asked same_event said held_is tick_is number limits opening same more known (inl step) refl (inl refl) (λ reads. step) cause counted moves (λ t start begin history run. step)
+  called old new answer given held tick trail asked same_event said held_is tick_is number limits opening same more known step cause counted moves repos =
+      read_called old new answer given given held tick trail asked same_event said held_is tick_is number limits opening same more known (inl step) refl (inl refl) (λ reads. step) cause counted moves repos (λ t start begin history run. step)

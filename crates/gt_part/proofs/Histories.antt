@@ -1,6 +1,7 @@
 -- How a partition's history goes on.
 use Rattle.std.proofs.Common.{◌≡◌, ◌⊎◌, inl, inr, ⊎_elim, ℕ, ◌+◌, ◌<◌, ◌≤◌, List, [], ◌∷◌, ◌++◌, length, length-append, Option, Some, None, Result, Ok, Err, refl, sym, ◌∙◌, ap, subst, arith, IsTrue, append_assoc, IfOk, IfErr, ◌-◌, ◌^◌, min, Bool, true, false}
 use Rattle.std.specs.Prelude.{if◌then◌else◌}
+use Rattle.std.specs.List.{AllByRecursion}
 use Rattle.std.proofs.lemmas.Bool.{cases_lt}
 use Rattle.gt_disk.specs.Files.{View, now, IsImage, Rose}
 use Rattle.gt_disk.specs.Moments.{Since, Narrows}
@@ -8,30 +9,34 @@ use Rattle.gt_log.specs.declared.mount_error.MountError.{MountError}
 use Rattle.gt_model.specs.declared.entry.Entry.{Entry}
 use Rattle.gt_model.specs.declared.limits.Limits.{Limits}
 use Rattle.gt_model.specs.declared.turn.Turn.{Turn}
-use Rattle.gt_model.specs.Machine.{State, Pin, Settles, MayRecover, opening, unapplied, with_doubt, is_faulty}
+use Rattle.gt_model.specs.Machine.{State, Pin, Settles, MayRecover, opening, with_doubt, is_faulty}
 use Rattle.gt_model.specs.Histories.{Happening, opened, last_state}
-use Rattle.gt_model.specs.Contents.{nothing}
 use Rattle.gt_sound.specs.Sound.{IsSoundState}
 use Rattle.gt_sound.proofs.Logs.{log_sound, sound_line, sound_state}
 use Rattle.gt_history.specs.Runs.{KeepsPast}
 use Rattle.gt_history.proofs.Safe.{same_ok}
 use Rattle.gt_history.proofs.Runs as runs
-use Rattle.gt_journal.specs.Recovery.{recover, Keeps, counters}
-use Rattle.gt_journal.specs.Ledger.{Ledger, StoredBy, Stored, state_of}
+use Rattle.gt_base.specs.declared.held.BaseRepo.{BaseRepo}
+use Rattle.gt_base.specs.Packs.{PackFile}
+use Rattle.gt_base.specs.Recovery.{recover, Keeps, counters}
+use Rattle.gt_table.specs.Table.{base}
+use Rattle.gt_base.specs.Held.{HoldsPack, HoldsPacks}
+use Rattle.gt_journal.specs.Ledger.{Ledger, StoredBy, Stored, KeepsPacks, state_of, ground}
+use Rattle.gt_journal.specs.Loading.{IsNumbered}
 use Rattle.gt_journal.specs.Histories.{IsGood, Gives, Holds, IsHistory}
-use Rattle.gt_journal.proofs.Images.{recovered_legal, stored_gives, by_stored}
+use Rattle.gt_journal.proofs.Images.{recovered_legal, stored_gives}
 use Rattle.gt_part.specs.Mounts.{Mounts}
 use Rattle.gt_part.specs.Shown.{Shown, memory, HasRun, Continues, OneOpening, faults_in}
 
 module _ (limits : Limits) (start : State) (begin : ℕ) (history : List Happening) (v : View) (trail : List Turn) (going : IsHistory limits start begin history v trail) where
   pub holds_now : Holds limits start begin history v
-  holds_now = runs.holds_now (recover limits) Keeps counters (recovered_legal limits) (Stored limits) (stored_gives limits) limits start begin history v trail going
+  holds_now = runs.holds_now (recover limits) (Keeps limits) counters (recovered_legal limits) (Stored limits) (stored_gives limits) limits start begin history v trail going
 
   pub good_now : IsGood limits (now v)
-  good_now = runs.going_good (recover limits) Keeps counters (recovered_legal limits) (Stored limits) (stored_gives limits) limits start begin history v trail going
+  good_now = runs.going_good (recover limits) (Keeps limits) counters (recovered_legal limits) (Stored limits) (stored_gives limits) limits start begin history v trail going
 
   pub holds_later : (w : View) → Narrows v w → Since (IsGood limits) v w → Holds limits start begin history w
-  holds_later w narrows good = runs.holds_later (recover limits) Keeps counters (recovered_legal limits) (Stored limits) (stored_gives limits) limits start begin history v w trail going narrows good
+  holds_later w narrows good = runs.holds_later (recover limits) (Keeps limits) counters (recovered_legal limits) (Stored limits) (stored_gives limits) limits start begin history v w trail going narrows good
 
 pub continues : {D : Type 0} (view : D → View) (start : State) (begin : ℕ) (history : List Happening) (P : List Happening → Type 0) (later : List Happening) (old p : Shown D)
     → p.limits ≡ old.limits → P later → KeepsPast (view old.disk) (view p.disk) → HasRun view start begin (later ++ history) p → Continues view start begin history P old p
@@ -47,18 +52,18 @@ continues view start begin history P later old p limits this past run = record {
 
 -- the files have the log that is in memory, and its contents are sound
 module _ {D : Type 0} (view : D → View) (start : State) (begin : ℕ) (history : List Happening) (p : Shown D) (run : HasRun view start begin history p) where
-  pub run_stored : StoredBy p.limits p.ledger (now (view p.disk))
-  run_stored = by_stored p.limits p.ledger p.live (now (view p.disk)) (subst (λ (s : State). Stored p.limits s (now (view p.disk))) (sym run.0) run.1.stored)
+  pub run_stored : StoredBy p.limits (ground p.ledger) p.ledger.doubt (now (view p.disk))
+  run_stored = (subst (λ (s : State). Stored p.limits s (now (view p.disk))) (sym run.0) run.1.stored).by
 
-  pub run_sound : IsSoundState (opening (unapplied p.ledger.log))
+  pub run_sound : IsSoundState (opening (ground p.ledger))
   run_sound =
-      let sound : IsSoundState (memory p) = subst IsSoundState (sym run.0) (runs.going_sound (recover p.limits) Keeps counters (recovered_legal p.limits) (Stored p.limits) (stored_gives p.limits) p.limits start begin history (view p.disk) p.trail run.1) in
-      sound_state (opening (unapplied p.ledger.log)) (log_sound nothing p.ledger.log p.ledger.doubt (sound_line (memory p) sound))
+      let sound : IsSoundState (memory p) = subst IsSoundState (sym run.0) (runs.going_sound (recover p.limits) (Keeps p.limits) counters (recovered_legal p.limits) (Stored p.limits) (stored_gives p.limits) p.limits start begin history (view p.disk) p.trail run.1) in
+      sound_state (opening (ground p.ledger)) (log_sound (base p.ledger.past) p.ledger.past.log p.ledger.doubt (sound_line (memory p) sound))
 
-  pub run_few : p.limits.positions < 2 ^ 64 → length p.ledger.log < 2 ^ 64
-  run_few most = by p.ledger.log p.ledger.doubt run_stored.within
+  pub run_few : p.limits.positions < 2 ^ 64 → p.ledger.past.begin + 1 + length p.ledger.past.log ≤ 2 ^ 64
+  run_few most = by p.ledger.past.log p.ledger.doubt run_stored.within
     where
-      by : (log : List Entry) (doubt : Option Entry) → length (with_doubt log doubt) ≤ p.limits.positions → length log < 2 ^ 64
+      by : (log : List Entry) (doubt : Option Entry) → p.ledger.past.begin + length (with_doubt log doubt) ≤ p.limits.positions → p.ledger.past.begin + 1 + length log ≤ 2 ^ 64
       by log None le = omega (arith, le, most)
       by log (Some e) le = omega (arith, le, most, length-append log (e ∷ []))
 
@@ -82,12 +87,12 @@ module _ {D : Type 0} (view : D → View) (start : State) (begin : ℕ) (history
       let since : Since (IsGood old.limits) v (view p.disk) = subst (λ (d : D). Since (IsGood old.limits) (view d) (view p.disk)) same (moments here) in
       let stored : Stored old.limits (opening r) (now (view p.disk)) = subst (λ (s : State). Stored old.limits s (now (view p.disk))) mounts.2 (subst (λ (l : Limits). Stored l (memory p) (now (view p.disk))) limits (good here).1.stored) in
       let more : IsHistory old.limits start begin (opened (view p.disk).clock (opening r) ∷ history) (view p.disk) [] =
-      runs.opened_more (recover old.limits) Keeps counters (recovered_legal old.limits) (Stored old.limits) (stored_gives old.limits) old.limits start begin history v old.trail run.1 (view p.disk) r may narrowed since stored in
+      runs.opened_more (recover old.limits) (Keeps old.limits) counters (recovered_legal old.limits) (Stored old.limits) (stored_gives old.limits) old.limits start begin history v old.trail run.1 (view p.disk) r may narrowed since stored in
       let whole : IsHistory p.limits start begin (opened (view p.disk).clock (memory p) ∷ history) (view p.disk) p.trail =
       subst (λ (l : Limits). IsHistory l start begin (opened (view p.disk).clock (memory p) ∷ history) (view p.disk) p.trail) (sym limits)
       (subst (λ (t : List Turn). IsHistory old.limits start begin (opened (view p.disk).clock (memory p) ∷ history) (view p.disk) t) (sym empty)
       (subst (λ (s : State). IsHistory old.limits start begin (opened (view p.disk).clock s ∷ history) (view p.disk) []) (sym mounts.2) more)) in
-      ((r, may, mounts.2), continues view start begin history (OneOpening (view p.disk).clock (memory p)) (opened (view p.disk).clock (memory p) ∷ []) old p limits refl (runs.past_since _ v (view p.disk) narrowed) (refl, whole))
+      ((r, may, mounts.2), continues view start begin history (OneOpening (view p.disk).clock (memory p)) (opened (view p.disk).clock (memory p) ∷ []) old p limits refl (runs.past_since _ v (view p.disk) narrowed) (refl, whole, (good here).2))
 
   restarted : (result : Result (Shown D) (MountError D)) → IfOk result (λ p. p.limits ≡ old.limits) → Mounts (recover old.limits (view disk).reads) result → IfOk result (λ p. p.trail ≡ []) → IfOk result (λ p. Narrows (view disk) (view p.disk))
       → (IsGood old.limits (now (view disk)) → IfOk result (λ p. Since (IsGood old.limits) (view disk) (view p.disk))) → (IsGood old.limits (now (view disk)) → IfOk result (λ p. HasRun view (memory p) (view p.disk).clock [] p))
@@ -142,11 +147,21 @@ counts_more first before now trail new turn is later rose counts =
 
 -- ---- the first opening
 
-pub opened_stands : (l : Ledger) (pins : List Pin) → l.doubt ≡ None → pins ≡ [] → state_of l pins ≡ opening (unapplied l.log)
-opened_stands l pins clear empty = λ i. record (opening (unapplied l.log)) { doubt = clear i; pins = empty i }
+pub opened_stands : (l : Ledger) (pins : List Pin) → l.doubt ≡ None → pins ≡ [] → IsNumbered l → state_of l pins ≡ opening (ground l)
+opened_stands l pins clear empty numbered = λ i. record (opening (ground l)) { doubt = clear i; pins = empty i; next = numbered i }
 
-pub first_run : (limits : Limits) (x : View) (l : Ledger) (pins : List Pin) (trail : List Turn) → l.doubt ≡ None → pins ≡ [] → trail ≡ [] → Stored limits (opening (unapplied l.log)) (now x) → IsSoundState (opening (unapplied l.log)) → IsHistory limits (state_of l pins) x.clock [] x trail
-first_run limits x l pins trail clear empty fresh stored sound =
+pub first_run : (limits : Limits) (x : View) (l : Ledger) (pins : List Pin) (trail : List Turn) → l.doubt ≡ None → pins ≡ [] → IsNumbered l → trail ≡ [] → Stored limits (opening (ground l)) (now x) → IsSoundState (opening (ground l)) → IsHistory limits (state_of l pins) x.clock [] x trail
+first_run limits x l pins trail clear empty numbered fresh stored sound =
     subst (λ (t : List Turn). IsHistory limits (state_of l pins) x.clock [] x t) (sym fresh)
-    (subst (λ (s : State). IsHistory limits s x.clock [] x []) (sym (opened_stands l pins clear empty))
-    (runs.first_opened (recover limits) Keeps counters (recovered_legal limits) (Stored limits) (stored_gives limits) limits x (unapplied l.log) stored sound))
+    (subst (λ (s : State). IsHistory limits s x.clock [] x []) (sym (opened_stands l pins clear empty numbered))
+    (runs.first_opened (recover limits) (Keeps limits) counters (recovered_legal limits) (Stored limits) (stored_gives limits) limits x (ground l) stored sound))
+
+-- ---- packs
+
+packs_still : (packs : List PackFile) (v w : View) → KeepsPacks v w → AllByRecursion (HoldsPack (now v)) packs → AllByRecursion (HoldsPack (now w)) packs
+packs_still [] v w keeps held = tt
+packs_still (p ∷ packs) v w keeps held = (keeps p.number ∙ held.0, packs_still packs v w keeps held.1)
+
+pub packs_kept : (repos : List BaseRepo) (v w : View) → KeepsPacks v w → HoldsPacks repos (now v) → HoldsPacks repos (now w)
+packs_kept [] v w keeps held = tt
+packs_kept (r ∷ repos) v w keeps held = (packs_still r.packs v w keeps held.0, packs_kept repos v w keeps held.1)

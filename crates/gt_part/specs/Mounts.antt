@@ -4,8 +4,8 @@ use Rattle.gt_disk.specs.Files.{Rose}
 use Rattle.gt_log.specs.declared.mount_cause.MountCause.TheVariants.{DeviceFault}
 use Rattle.gt_log.specs.declared.mount_error.MountError.{MountError}
 use Rattle.gt_model.specs.Machine.{Recovered, opening}
-use Rattle.gt_journal.specs.Recovery.{Damage}
-use Rattle.gt_journal.specs.Loading.{Blames}
+use Rattle.gt_base.specs.Answers.{Blames}
+use Rattle.gt_reading.specs.Reading.{Damage}
 use Rattle.gt_part.specs.Shown.{Shown, Stands}
 
 -- What the files recover to is opened, or the first damage is named.

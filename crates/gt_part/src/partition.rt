@@ -1,10 +1,11 @@
 ghost use Rattle.std.specs.Prelude.{◌≡◌, ◌≤◌, ◌++◌, ℕ, [], ◌∷◌, List, length, IsTrue, IfOk, IfErr};
 ghost use Rattle.gt_disk.specs.Files.{Rose, now};
 ghost use Rattle.gt_disk.specs.Moments.{Since, Narrows};
-ghost use Rattle.gt_model.specs.Machine.{State, Settles, opening, unapplied, content, is_live};
+ghost use Rattle.gt_model.specs.Machine.{State, Settles, opening, content, is_live};
 ghost use Rattle.gt_model.specs.Histories.{Happening, all_refs, last_state};
-ghost use Rattle.gt_journal.specs.Recovery.{recover};
+ghost use Rattle.gt_base.specs.Recovery.{recover};
 ghost use Rattle.gt_journal.specs.Histories.{IsGood, Holds};
+ghost use Rattle.gt_journal.specs.Ledger.{ground};
 ghost use Rattle.gt_part.specs.Mounts.{Mounts, HasMountCause};
 ghost use Rattle.gt_part.specs.Shown.{memory, Counts, HasRun, Continues, OneOpening, pins_of, front_of};
 
@@ -43,8 +44,9 @@ impl<D: Disk + Drop> Model for Partition<D> {
 }
 
 impl<D: Disk + Drop> Partition<D> {
-    /// Opens what the disk's files recover to. `Damaged` names the first damage: a gate that is longer than the limit, then the
-    /// first entry that is absent, isn't spelled, or doesn't fit. `DeviceFault` comes only of a fault of the disk.
+    /// Opens what the disk's files recover to. `Damaged` names the first damage: a gate or a turn that is longer than its limit,
+    /// then what the manifest of the epoch and the files that it names have, then the first entry past them that is absent,
+    /// isn't spelled, or doesn't fit. `DeviceFault` comes only of a fault of the disk.
     pub fn mount(
         alloc: Global,
         number: u8,
@@ -58,8 +60,8 @@ impl<D: Disk + Drop> Partition<D> {
         ensures answer { IsTrue D.tells → Mounts (recover limits (D.view disk).reads) result }
         ensures kept { IfOk result (λ p. (p.number ≡ number) × (p.limits ≡ limits)) }
 
-        // Over any disk its memory stands for a state that is opened from the entries it has.
-        ensures opened { IfOk result (λ p. memory p ≡ opening (unapplied p.ledger.log)) }
+        // Over any disk its memory stands for a state that is opened from the base and the entries it has.
+        ensures opened { IfOk result (λ p. memory p ≡ opening (ground p.ledger)) }
         ensures empty { IfOk result (λ p. p.trail ≡ []) }
 
         // The trail has the references of what is opened.
@@ -118,7 +120,7 @@ impl<D: Disk + Drop> Partition<D> {
         // Where it fails, what has happened still holds on the disk.
         ensures in_vain { IsTrue D.tells → (start : State) (begin : ℕ) (history : List Happening) → HasRun D.view start begin history self → IfErr result (λ e. Holds self.limits start begin history (D.view e.disk)) }
         ensures kept { IfOk result (λ p. (p.number ≡ self.number) × (p.limits ≡ self.limits)) }
-        ensures opened { IfOk result (λ p. memory p ≡ opening (unapplied p.ledger.log)) }
+        ensures opened { IfOk result (λ p. memory p ≡ opening (ground p.ledger)) }
         ensures answer { IsTrue D.tells → Mounts (recover self.limits (D.view self.disk).reads) result }
         ensures sure { IfOk result (λ p. D.fault_count p.disk ≡ D.fault_count self.disk) }
         ensures fault { IfErr result (HasMountCause D.fault_count self.disk) }

@@ -104,7 +104,7 @@ impl<D: Disk + Drop> Partition<D> {
         requires { is_live (pins_of self.old) pin.now ≡ true }
         ensures called { Called D.tells D.view D.fault_count D.call_count who (Asked.Cat pin.now name.now) result self.old self.new }
         ensures named { IsNamedSo name.now result }
-        ensures gives { IsTrue D.tells → CatGives (memory self.old) pin.now name.now (D.view self.old.disk).reads result }
+        ensures gives { IsTrue D.tells → CatGives self.old.ledger.past (memory self.old) pin.now name.now (D.view self.old.disk).reads result }
         ensures pins { pins_of self.new ≡ pins_of self.old }
     {
         if let Err(_) = take_room(&mut self.trail, self.state.live.len(), 1) {

@@ -20,7 +20,7 @@ use Rattle.gt_objset.specs.Agree.{ArePlaced}
 use Rattle.gt_objset.proofs.ContentLaws.{head_of_repo, get-union}
 use Rattle.gt_places.proofs.Lengths.{before_added, before_length, write_spelling}
 use Rattle.gt_places.proofs.Cases.{AreGood, either_good, dropped_good}
-use Rattle.gt_places.proofs.Records.{IsGood, added_good}
+use Rattle.gt_places.proofs.Records.{Bases, IsGood, added_good}
 
 -- ---- contents
 
@@ -47,11 +47,11 @@ elsewhere c path (Unlink file) q t = moved_elsewhere c path (unlinked c) q t
 -- ---- a change
 
 -- the record of each own object stands where the object is placed
-abbrev pub AllGood : List Entry → Content → (List ℕ → List ℕ → Option Place) → Type 0
-AllGood log c places = (path x : List ℕ) → AreGood (IsGood log) (own c path x) (places path x)
+abbrev pub AllGood : Bases → ℕ → List Entry → Content → (List ℕ → List ℕ → Option Place) → Type 0
+AllGood Base start log c places = (path x : List ℕ) → AreGood (IsGood Base start log) (own c path x) (places path x)
 
-module _ (log : List Entry) (c : Content) (places : List ℕ → List ℕ → Option Place) (placed : ArePlaced c places) (good : AllGood log c places) where
-  pool_good : (pool : Option (List ℕ)) (x : List ℕ) → AreGood (IsGood log) (map.get (pool_own c pool) x) (and_then pool (λ p. places p x))
+module _ (Base : Bases) (start : ℕ) (log : List Entry) (c : Content) (places : List ℕ → List ℕ → Option Place) (placed : ArePlaced c places) (good : AllGood Base start log c places) where
+  pool_good : (pool : Option (List ℕ)) (x : List ℕ) → AreGood (IsGood Base start log) (map.get (pool_own c pool) x) (and_then pool (λ p. places p x))
   pool_good None x = λ whole at is here. some_none at (sym here)
   pool_good (Some pool) x = λ whole at is here. good pool x whole at (sym (by (map.get c pool)) ∙ is) here
     where
@@ -63,42 +63,42 @@ module _ (log : List Entry) (c : Content) (places : List ℕ → List ℕ → Op
     own_is : (x : List ℕ) → own c path x ≡ map.get r.own x
     own_is x = ap (λ o. and_then o (λ r. map.get r.own x)) is
 
-    mine : (x : List ℕ) → AreGood (IsGood log) (map.get r.own x) (places path x)
+    mine : (x : List ℕ) → AreGood (IsGood Base start log) (map.get r.own x) (places path x)
     mine x whole at has here = good path x whole at (own_is x ∙ has) here
 
     -- what is good of the changed repository
-    moved : (f : Repo → Repo) (x : List ℕ) (place : Option Place) → AreGood (IsGood log) (map.get (f r).own x) place → AreGood (IsGood log) (own (at_repo c path f) path x) place
+    moved : (f : Repo → Repo) (x : List ℕ) (place : Option Place) → AreGood (IsGood Base start log) (map.get (f r).own x) place → AreGood (IsGood Base start log) (own (at_repo c path f) path x) place
     moved f x place h whole at has here = h whole at (sym (own_moved c path f r is x) ∙ has) here
 
-    with_pool : (x : List ℕ) → AreGood (IsGood log) (map.get (unlinked c r).own x) (own_here (Unlink 0) 0 path (Some (head_of_repo r)) places x)
+    with_pool : (x : List ℕ) → AreGood (IsGood Base start log) (map.get (unlinked c r).own x) (own_here (Unlink 0) 0 path (Some (head_of_repo r)) places x)
     with_pool x whole at has here =
-        either_good (IsGood log) (map.get r.own x) (map.get (pool_own c r.pool) x) (places path x) (and_then r.pool (λ p. places p x))
+        either_good (IsGood Base start log) (map.get r.own x) (map.get (pool_own c r.pool) x) (places path x) (and_then r.pool (λ p. places p x))
         (placed path x ∙ ap is_some (own_is x)) (mine x) (pool_good r.pool x) whole at (sym (get-union r.own (pool_own c r.pool) x) ∙ has) here
 
-    change_good : (change : Change) (position index : ℕ) → slice_get log index ≡ Some (record { position = position; path = path; change = change }) → position ≡ index + 1 → IsChange change
-        → (x : List ℕ) → AreGood (IsGood log) (own (changed c path change) path x) (own_here change position path (Some (head_of_repo r)) places x)
+    change_good : (change : Change) (position index : ℕ) → slice_get log index ≡ Some (record { position = position; path = path; change = change }) → position ≡ index + (start + 1) → IsChange change
+        → (x : List ℕ) → AreGood (IsGood Base start log) (own (changed c path change) path x) (own_here change position path (Some (head_of_repo r)) places x)
     unfolding changed
     change_good (Create pool) position index there numbered typed x = λ whole at has here. some_none at (sym here)
     change_good Delete position index there numbered typed x = λ whole at has here. some_none at (sym here)
     change_good (Link pool) position index there numbered typed x = moved (λ r. record r { pool = Some pool }) x (places path x) (mine x)
     change_good (Write refs needed added) position index there numbered typed x =
         moved (λ r. record r { refs = with_refs r.refs refs; own = with_added r.own added }) x _
-        (added_good log index position (record { position = position; path = path; change = Write refs needed added }) there numbered added (before_added position path refs needed added) (added_begin path refs needed)
+        (added_good Base start log index position (record { position = position; path = path; change = Write refs needed added }) there numbered added (before_added position path refs needed added) (added_begin path refs needed)
         (recursion_from_All IsAdded added typed.added) (sym (before_length position path refs needed added (recursion_from_All IsUpdate refs typed.refs) (recursion_from_All IsName needed typed.needed)))
         (write_spelling position path refs needed added) r.own x None (places path x) (mine x))
-    change_good (Repack file dropped) position index there numbered typed x = moved (λ r. record r { own = without r.own dropped }) x _ (dropped_good (IsGood log) dropped r.own x None (places path x) (mine x))
-    change_good (Prune file dropped) position index there numbered typed x = moved (λ r. record r { own = without r.own dropped }) x _ (dropped_good (IsGood log) dropped r.own x None (places path x) (mine x))
+    change_good (Repack file dropped) position index there numbered typed x = moved (λ r. record r { own = without r.own dropped }) x _ (dropped_good (IsGood Base start log) dropped r.own x None (places path x) (mine x))
+    change_good (Prune file dropped) position index there numbered typed x = moved (λ r. record r { own = without r.own dropped }) x _ (dropped_good (IsGood Base start log) dropped r.own x None (places path x) (mine x))
     change_good (PackRefs file) position index there numbered typed x = good path x
     change_good (Unlink file) position index there numbered typed x = moved (unlinked c) x _ (with_pool x)
 
-  pub entry_good : (e : Entry) (index : ℕ) → slice_get log index ≡ Some e → e.position ≡ index + 1 → IsEntry e → AllGood log (after c e) (own_after e (head_in c e.path) places)
+  pub entry_good : (e : Entry) (index : ℕ) → slice_get log index ≡ Some e → e.position ≡ index + (start + 1) → IsEntry e → AllGood Base start log (after c e) (own_after e (head_in c e.path) places)
   entry_good e index there numbered typed q x whole at has here = by (eq_by_cmp key_cmp q e.path) refl here
     where
       in_repo : (o : Option Repo) → map.get c e.path ≡ o → own (after c e) e.path x ≡ Some whole
-          → own_if (option_map head_of_repo o) (own_here e.change e.position e.path (option_map head_of_repo o) places x) ≡ Some at → IsGood log whole at
+          → own_if (option_map head_of_repo o) (own_here e.change e.position e.path (option_map head_of_repo o) places x) ≡ Some at → IsGood Base start log whole at
       in_repo None is has here = some_none at (sym here)
       in_repo (Some r) is has here = change_good e.path r is e.change e.position index there numbered typed.change x whole at has here
 
-      by : (b : Bool) → eq_by_cmp key_cmp q e.path ≡ b → cond b (own_if (head_in c e.path) (own_here e.change e.position e.path (head_in c e.path) places x)) (places q x) ≡ Some at → IsGood log whole at
+      by : (b : Bool) → eq_by_cmp key_cmp q e.path ≡ b → cond b (own_if (head_in c e.path) (own_here e.change e.position e.path (head_in c e.path) places x)) (places q x) ≡ Some at → IsGood Base start log whole at
       by false t here = good q x whole at (sym (ap (λ o. and_then o (λ r. map.get r.own x)) (elsewhere c e.path e.change q t)) ∙ has) here
       by true t here = in_repo (map.get c e.path) refl (sym (ap (λ o. and_then o (λ r. map.get r.own x)) (get-alike (after c e) e.path q t)) ∙ has) here

@@ -5,8 +5,8 @@ use gt_disk::{Disk, MemDisk};
 use gt_outside::{Host, MemHost};
 use std::alloc::Global;
 
-/// The host whose disk 1 is this one, and whose others are empty. None where memory runs out.
-pub(crate) fn host_of(alloc: Global, disk: MemDisk, faults: &[u64]) -> Option<MemHost>
+/// The host whose disk 1 is this one, and whose others are empty; its calls fail at these. None where memory runs out.
+pub fn host_of(alloc: Global, disk: MemDisk, faults: &[u64]) -> Option<MemHost>
     ensures { IfSome result (λ host. (n : ℕ) → ⟦<MemHost as Host>⟧.is_out host n ≡ false) }
 {
     let mut disks = Vec::new(alloc);

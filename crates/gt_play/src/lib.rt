@@ -9,6 +9,7 @@ mod playing;
 mod replaying;
 mod setting;
 
+pub use hosting::host_of;
 pub use mute_disk::MuteDisk;
 pub use mute_host::MuteHost;
 pub use playing::{Ended, play, play_mute};

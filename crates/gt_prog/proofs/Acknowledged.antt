@@ -13,7 +13,7 @@ use Rattle.gt_model.proofs.Steps.{step_grows, step_acked, grown_longer}
 use Rattle.gt_model.proofs.Openings.{opening_order, opening_part}
 use Rattle.gt_history.proofs.Parts.{recovered_long}
 use Rattle.gt_journal.specs.Histories.{Gives, Holds}
-use Rattle.gt_journal.specs.Recovery.{recover}
+use Rattle.gt_base.specs.Recovery.{recover}
 use Rattle.gt_script.specs.declared.form.Form.{Form}
 use Rattle.gt_script.specs.declared.form.Form.TheVariants.{Restart}
 use Rattle.gt_prog.specs.Lines.{Line, Past, Stand, Happened, Restarts, LineBy, AreLines, IsEnd}

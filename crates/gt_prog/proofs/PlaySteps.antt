@@ -11,12 +11,13 @@ use Rattle.gt_model.specs.declared.done.Done.{Done}
 use Rattle.gt_model.specs.declared.done.Done.TheVariants.{Restarted}
 use Rattle.gt_model.specs.declared.limits.Limits.{Limits}
 use Rattle.gt_model.specs.declared.refusal.Refusal.{Refusal}
-use Rattle.gt_model.specs.Machine.{State, Recovered, Settles, opening, unapplied, front, is_faulty}
+use Rattle.gt_model.specs.Machine.{State, Recovered, Settles, opening, front, is_faulty}
 use Rattle.gt_model.specs.Histories.{Happening, last_state}
 use Rattle.gt_outside.specs.Written.{AppendsAll, AppendsFront}
-use Rattle.gt_journal.specs.Recovery.{recover}
+use Rattle.gt_base.specs.Recovery.{recover}
 use Rattle.gt_journal.specs.Histories.{IsGood}
 use Rattle.gt_journal.specs.Histories.{Holds}
+use Rattle.gt_journal.specs.Ledger.{ground}
 use Rattle.gt_part.specs.Mounts.{Mounts}
 use Rattle.gt_history.specs.Runs.{KeepsPast}
 use Rattle.gt_part.specs.Shown.{memory, Shown, HasRun, Continues, OneOpening}
@@ -363,7 +364,7 @@ module _ {D : Type 0} (view : D → View) (limits : Limits) (old : View) (p : Sh
 
 -- what a run over a mounted disk says of the disk as it was
 module _ {D : Type 0} (tells : Bool) (view : D → View) (fault_count : D → ℕ) (limits : Limits) (requests : List Request) (disk : D) (p : Shown D) (mounts : IsTrue tells → Mounts (recover limits (view disk).reads) (Ok p)) (kept : p.limits ≡ limits)
-    (narrows : IsTrue tells → Narrows (view disk) (view p.disk)) (run : IsTrue tells → IsGood limits (now (view disk)) → HasRun view (memory p) (view p.disk).clock [] p) (sure : fault_count p.disk ≡ fault_count disk) (opened : memory p ≡ opening (unapplied p.ledger.log)) where
+    (narrows : IsTrue tells → Narrows (view disk) (view p.disk)) (run : IsTrue tells → IsGood limits (now (view disk)) → HasRun view (memory p) (view p.disk).clock [] p) (sure : fault_count p.disk ≡ fault_count disk) (opened : memory p ≡ opening (ground p.ledger)) where
   later : fault_count disk ≤ fault_count p.disk
   later = omega (arith, sure)
 
@@ -380,7 +381,7 @@ module _ {D : Type 0} (tells : Bool) (view : D → View) (fault_count : D → �
     bytes = played.bytes;
     counted = counted_whole q d w v same played;
     sure = none_faulty 0 (fault_count disk) (fault_count d) played.lines (counted_whole q d w v same played);
-    acted = acted_whole p limits (unapplied p.ledger.log) kept opened played.lines (running_of q) played.acted;
+    acted = acted_whole p limits (ground p.ledger) kept opened played.lines (running_of q) played.acted;
     opens = λ told. ((mounts told).0, (mounts told).1);
     worked = λ told good.
         let m = mounts told in
@@ -402,7 +403,7 @@ module _ {D : Type 0} (tells : Bool) (view : D → View) (fault_count : D → �
     ends = played.ends;
     counted = counted_part cause end w v played;
     sure = none_faulty (own_faults cause) (fault_count disk) (fault_count end) (played.whole ++ played.part) (counted_part cause end w v played);
-    acted = acted_lines p limits (unapplied p.ledger.log) kept opened (played.whole ++ played.part) played.acted;
+    acted = acted_lines p limits (ground p.ledger) kept opened (played.whole ++ played.part) played.acted;
     opens = λ told. ((mounts told).0, (mounts told).1);
     worked = λ told good.
         let m = mounts told in

@@ -6,7 +6,7 @@ use Rattle.gt_model.specs.declared.limits.Limits.{Limits}
 use Rattle.gt_model.specs.Histories.{position}
 use Rattle.gt_model.specs.Machine.{Recovered, front, opening}
 use Rattle.gt_outside.specs.Written.{AppendsAll, AppendsFront}
-use Rattle.gt_journal.specs.Recovery.{recover}
+use Rattle.gt_base.specs.Recovery.{recover}
 use Rattle.gt_journal.specs.Histories.{IsGood}
 use Rattle.gt_journal.specs.Histories.{Holds}
 use Rattle.gt_script.specs.declared.request.Request.{Request}

@@ -7,7 +7,7 @@ ghost use Rattle.gt_model.specs.Machine.{State, is_faulty};
 ghost use Rattle.gt_model.specs.Histories.{Happening};
 ghost use Rattle.gt_journal.specs.Histories.{Holds};
 ghost use Rattle.gt_part.specs.Mounts.{HasMountCause};
-ghost use Rattle.gt_journal.specs.Recovery.{recover};
+ghost use Rattle.gt_base.specs.Recovery.{recover};
 ghost use Rattle.gt_history.specs.Runs.{KeepsPast};
 ghost use Rattle.gt_part.specs.Shown.{HasRun};
 ghost use Rattle.gt_prog.specs.One.{in_one};

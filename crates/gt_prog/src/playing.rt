@@ -4,7 +4,7 @@ ghost use Rattle.std.specs.List.{All};
 ghost use Rattle.gt_disk.specs.Files.{Rose};
 ghost use Rattle.gt_disk.specs.declared.file_id.FileId.{FileId};
 ghost use Rattle.gt_log.specs.declared.mount_cause.MountCause.{MountCause};
-ghost use Rattle.gt_journal.specs.Recovery.{recover};
+ghost use Rattle.gt_base.specs.Recovery.{recover};
 ghost use Rattle.gt_prog.specs.Lines.{new_sessions};
 ghost use Rattle.gt_prog.specs.One.{in_one, LocalDid};
 ghost use Rattle.gt_prog.specs.Played.{Played, PlayedPart, PlayedWhole, restart_cause};

@@ -4,7 +4,7 @@ ghost use Rattle.gt_disk.specs.Files.{Rose, now};
 ghost use Rattle.gt_disk.specs.declared.file_id.FileId.{FileId};
 ghost use Rattle.gt_model.specs.Usual.{usual};
 ghost use Rattle.gt_outside.specs.Consumed.{ConsumesAtMost};
-ghost use Rattle.gt_journal.specs.Recovery.{recover};
+ghost use Rattle.gt_base.specs.Recovery.{recover};
 ghost use Rattle.gt_journal.specs.Histories.{IsGood};
 ghost use Rattle.gt_prog.specs.declared.playing.PlayCause.{PlayCause};
 ghost use Rattle.gt_prog.specs.Script.{HasSession, not_built};

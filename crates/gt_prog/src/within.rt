@@ -2,7 +2,7 @@ ghost use Rattle.std.specs.Prelude.{◌≡◌, ◌≢◌, ◌+◌, ◌≤◌, �
 ghost use Rattle.gt_disk.specs.Files.{Rose};
 ghost use Rattle.gt_disk.specs.declared.file_id.FileId.{FileId};
 ghost use Rattle.gt_outside.specs.Consumed.{ConsumesAtMost};
-ghost use Rattle.gt_journal.specs.Recovery.{recover};
+ghost use Rattle.gt_base.specs.Recovery.{recover};
 ghost use Rattle.gt_prog.specs.Statuses.{IsBadAt, IsNotYetAt, IsGoodInput, IsUnderway, RoseEither, input_limit};
 
 use crate::status::Status;

@@ -1,2 +1,4 @@
 pub mod FollowLaws
+pub mod LeftLaws
 pub mod Rooms
+pub mod SeedLaws

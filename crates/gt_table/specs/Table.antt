@@ -1,10 +1,13 @@
--- The entries of a log, with the tables of what they have made.
-use Rattle.std.specs.Prelude.{◌≡◌, ℕ, ◌<◌, List, Option, None}
+-- The entries of a log past a base, with the tables of what base and log have made.
+use Rattle.std.specs.Prelude.{◌≡◌, ℕ, ◌+◌, ◌<◌, List, length, Option}
 use Rattle.std.specs.Coded.{Coded, code_by, coded×, coded_ℕ, coded_list}
 use Rattle.std.proofs.Common.{refl}
+use Rattle.gt_base.specs.declared.held.BaseRepo.{BaseRepo}
+use Rattle.gt_base.specs.contracts.held.BaseRepo as repo
+use Rattle.gt_base.specs.Held.{content_of, places_of}
 use Rattle.gt_model.specs.contracts.entry.Entry as entry
 use Rattle.gt_model.specs.declared.entry.Entry.{Entry}
-use Rattle.gt_model.specs.Contents.{Content, nothing, after_all, at}
+use Rattle.gt_model.specs.Contents.{Content, after_all, at}
 use Rattle.gt_objset.specs.Agree as objects
 use Rattle.gt_objset.specs.Places.{head_in, seen, places_at}
 use Rattle.gt_objset.specs.Table as objects_table
@@ -12,43 +15,56 @@ use Rattle.gt_objset.specs.declared.place.Place.{Place}
 use Rattle.gt_reftable.specs.Agree as refs
 use Rattle.gt_reftable.specs.Table as refs_table
 
--- what clauses see: the entries, for how many more there is room, and the two tables
-pub record Tables : Type 0 where
+-- the position of a base, what its files had as they were read, and the entries past it
+pub record Past : Type 0 where
+  pub begin : ℕ
+  pub repos : List BaseRepo
   pub log : List Entry
+
+-- the content of the base
+abbrev pub base : Past → Content
+base p = content_of p.repos
+
+-- the position of the last entry
+abbrev pub front : Past → ℕ
+front p = p.begin + length p.log
+
+-- the content at the front
+abbrev pub content : Past → Content
+content p = after_all (base p) p.log
+
+-- the content at a position from the base on
+abbrev pub content_at : Past → ℕ → Content
+content_at p position = at p.begin (base p) p.log position
+
+-- the place of the record that is seen under a name in a repository at a position
+abbrev pub place_at : Past → ℕ → List ℕ → List ℕ → Option Place
+place_at p position path name = seen (head_in (content_at p position) path) (places_at p.begin (base p) (places_of p.repos) p.log position) path name
+
+-- what clauses see: base and log, for how many more entries there is room, and the two tables
+pub record Tables : Type 0 where
+  pub past : Past
   pub room : ℕ
   pub refs : refs_table.Table
   pub objects : objects_table.Table
 
+abbrev pub past_code : Coded Past
+past_code = code_by (ℕ × (List BaseRepo × List Entry)) (coded× coded_ℕ (coded× (coded_list repo.the_row.coded) (coded_list entry.the_row.coded))) (λ p. (p.begin, (p.repos, p.log))) (λ q. record { begin = q.0; repos = q.1.0; log = q.1.1 }) (λ _. refl)
+
 abbrev pub tables_code : Coded Tables
 tables_code =
-    code_by ((List Entry × ℕ) × (refs_table.Table × objects_table.Table)) (coded× (coded× (coded_list entry.the_row.coded) coded_ℕ) (coded× refs_table.table_code objects_table.table_code))
-    (λ t. ((t.log, t.room), (t.refs, t.objects))) (λ p. record { log = p.0.0; room = p.0.1; refs = p.1.0; objects = p.1.1 }) (λ _. refl)
+    code_by ((Past × ℕ) × (refs_table.Table × objects_table.Table)) (coded× (coded× past_code coded_ℕ) (coded× refs_table.table_code objects_table.table_code))
+    (λ t. ((t.past, t.room), (t.refs, t.objects))) (λ p. record { past = p.0.0; room = p.0.1; refs = p.1.0; objects = p.1.1 }) (λ _. refl)
 
--- no record stands anywhere before the first entry
-abbrev pub nowhere : List ℕ → List ℕ → Option Place
-nowhere path name = None
-
--- Both tables begin at position 0 and agree with the content of the log at each position.
+-- Both tables begin at the position of the base, and agree with the content at each position from there on.
 pub record Follow (t : Tables) : Type 0 where
-  pub refs_floor : t.refs.floor ≡ 0
-  pub objects_floor : t.objects.floor ≡ 0
-  pub refs : refs.Agrees t.refs nothing t.log
-  pub objects : objects.Agrees t.objects nothing nowhere t.log
+  pub refs_floor : t.refs.floor ≡ t.past.begin
+  pub objects_floor : t.objects.floor ≡ t.past.begin
+  pub refs : refs.Agrees t.refs (base t.past) t.past.log
+  pub objects : objects.Agrees t.objects (base t.past) (places_of t.past.repos) t.past.log
 
 -- All memory of adding this entry is taken.
 pub record HasRoomFor (entry : Entry) (t : Tables) : Type 0 where
   pub entries : 0 < t.room
   pub refs : refs_table.IsPrepared t.refs entry
   pub objects : objects_table.IsPrepared t.objects entry
-
--- the content at the front of a log of which nothing has been applied
-abbrev pub content : List Entry → Content
-content log = after_all nothing log
-
--- the content at a position of such a log
-abbrev pub content_at : List Entry → ℕ → Content
-content_at log position = at 0 nothing log position
-
--- the place of the record that is seen under a name in a repository at a position of a log
-abbrev pub place_at : List Entry → ℕ → List ℕ → List ℕ → Option Place
-place_at log position path name = seen (head_in (content_at log position) path) (places_at 0 nothing nowhere log position) path name

@@ -6,7 +6,7 @@ use gt_name::{Name, Names2, RefName, RepoPath};
 
 /// The content at the front.
 impl Look for Table {
-    ghost content = { λ t. content t.log };
+    ghost content = { λ t. content t.past };
 
     fn has_repo(&self, path: &RepoPath) -> bool {
         Table::has_repo(self, path)

@@ -1,8 +1,9 @@
-//! The entries of a log, and the content that they have made at each position.
+//! The entries of a log past a base, and the content that base and log have made at each position.
 #![tactic(auto)]
 
 mod fitting;
 mod front;
+mod seeding;
 mod table;
 
 pub use table::Table;

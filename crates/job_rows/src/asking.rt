@@ -52,9 +52,9 @@ fn job_at(
     match question {
         "conflict" => conflicts::conflict(out, alloc, bench, path, words),
         "family" => conflicts::family(out, alloc, &bench.content, path, words),
-        "peel" => tags::peel(out, alloc, &bench.content, path, words),
-        "peeled" => tags::peeled(out, alloc, &bench.content, path, words),
-        "tags" => tags::count(out, alloc, &bench.content, path, words),
+        "peel" | "peeled" | "tags" => {
+            tags::row(out, alloc, &bench.content, question, path, words)
+        }
         _ => jobs::row(out, alloc, &bench.content, question, path, words),
     }
 }

@@ -29,8 +29,7 @@ pub(crate) fn row(
     words: &str,
 ) -> Result<(), NoMemory> {
     match question {
-        "dropped" => dropped(out, alloc, content, path, words),
-        "units" => units(out, alloc, content, path, words),
+        "dropped" | "units" => job_row(out, alloc, content, question, path, words),
         "marked" => marked(out, alloc, content, path, words),
         "kept" => put_count(out, gt_plain_jobs::kept_count(alloc, content, path)?),
         "brought" => put_objects(out, &gt_plain_jobs::brought_objects(alloc, content, path)?),
@@ -44,32 +43,24 @@ fn put_count(out: &mut Vec<u8>, count: usize) -> Result<(), NoMemory> {
     Ok(())
 }
 
-fn dropped(
+/// What a job drops, or how many units it has.
+fn job_row(
     out: &mut Vec<u8>,
     alloc: Global,
     content: &PlainContent,
+    question: &str,
     path: &RepoPath,
     word: &str,
 ) -> Result<(), NoMemory> {
     let Some(job) = job_of(word) else {
         return bad_row(out);
     };
+    if question == "units" {
+        return put_count(out, gt_plain_jobs::units_of(alloc, content, path, job)?);
+    }
     let names = gt_plain_jobs::dropped_by(alloc, content, path, job)?;
     put_names(out, &names)?;
     Ok(())
-}
-
-fn units(
-    out: &mut Vec<u8>,
-    alloc: Global,
-    content: &PlainContent,
-    path: &RepoPath,
-    word: &str,
-) -> Result<(), NoMemory> {
-    match job_of(word) {
-        Some(job) => put_count(out, gt_plain_jobs::units_of(alloc, content, path, job)?),
-        None => bad_row(out),
-    }
 }
 
 fn marked(

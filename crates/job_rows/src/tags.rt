@@ -1,54 +1,44 @@
-//! What tags lead to, each `NAME`.
+//! What tags lead to: `peel PATH NAME`, `peeled PATH NAME` and `tags PATH NAME`.
+use crate::asking::bad_row;
 use gt_list::NoMemory;
-use gt_name::RepoPath;
+use gt_name::{Name, RepoPath};
 use gt_plain::PlainContent;
 use row_words::{name_of, put, put_number, put_value};
 use std::alloc::Global;
 
-fn no_such_name(out: &mut Vec<u8>) -> Result<(), NoMemory> {
-    put(out, b"no such name")?;
-    Ok(())
-}
-
-pub(crate) fn peel(
+pub(crate) fn row(
     out: &mut Vec<u8>,
     alloc: Global,
     content: &PlainContent,
+    question: &str,
     path: &RepoPath,
     word: &str,
 ) -> Result<(), NoMemory> {
-    let Some(name) = name_of(word) else {
-        return no_such_name(out);
-    };
-    put_value(out, gt_plain_jobs::peel(alloc, content, path, &name)?)?;
-    Ok(())
+    match name_of(word) {
+        Some(name) => row_at(out, alloc, content, question, path, &name),
+        None => {
+            put(out, b"no such name")?;
+            Ok(())
+        }
+    }
 }
 
-pub(crate) fn peeled(
+fn row_at(
     out: &mut Vec<u8>,
     alloc: Global,
     content: &PlainContent,
+    question: &str,
     path: &RepoPath,
-    word: &str,
+    name: &Name,
 ) -> Result<(), NoMemory> {
-    let Some(name) = name_of(word) else {
-        return no_such_name(out);
-    };
-    put_value(out, gt_plain_jobs::peeled(alloc, content, path, &name)?)?;
-    Ok(())
-}
-
-pub(crate) fn count(
-    out: &mut Vec<u8>,
-    alloc: Global,
-    content: &PlainContent,
-    path: &RepoPath,
-    word: &str,
-) -> Result<(), NoMemory> {
-    let Some(name) = name_of(word) else {
-        return no_such_name(out);
-    };
-    let count = gt_plain_jobs::tag_count(alloc, content, path, &name)?;
-    put_number(out, count as u64)?;
+    match question {
+        "peel" => put_value(out, gt_plain_jobs::peel(alloc, content, path, name)?)?,
+        "peeled" => put_value(out, gt_plain_jobs::peeled(alloc, content, path, name)?)?,
+        "tags" => {
+            let count = gt_plain_jobs::tag_count(alloc, content, path, name)?;
+            put_number(out, count as u64)?
+        }
+        _ => return bad_row(out),
+    }
     Ok(())
 }

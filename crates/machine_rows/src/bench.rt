@@ -1,8 +1,8 @@
-use crate::reading::number;
 use gt_list::ListOf;
 use gt_model::{AddedRecords, Limits, RefUpdates};
 use gt_plain_files::PlainFiling;
 use gt_plain_machine::{PlainState, opening, unapplied};
+use row_words::number;
 use std::alloc::Global;
 
 /// What the rows work on: limits, a state of the machine and its files, and what the next commit stages.

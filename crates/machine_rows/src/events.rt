@@ -2,9 +2,10 @@
 //! `cat PIN NAME`, `commit PIN`, of what was staged, `abort PIN`; `house JOB PATH`, `step PIN COUNT`, `close PIN`; `apply COUNT`,
 //! `trim`, `sweep`. A pin is a number.
 use crate::bench::Bench;
-use crate::reading::{count_of, job_of, name_of, number, path_of, pin_of, ref_of, word_of};
+use crate::reading::{count_of, job_of, pin_of, word_of};
 use gt_list::ListOf;
 use gt_model::Event;
+use row_words::{name_of, number, path_of, ref_of};
 use std::alloc::Global;
 use std::mem;
 

@@ -31,5 +31,5 @@ fn take_lines<R: Runtime>(rt: &R, alloc: Global, bench: &mut Bench) -> io::Resul
 fn take_line(rt: &impl Print, alloc: Global, bench: &mut Bench, line: &str) -> io::Result<()> {
     let mut out = Vec::new(alloc);
     rows::row(&mut out, alloc, bench, line)?;
-    shown::show(rt, &out)
+    row_words::show(rt, &out)
 }

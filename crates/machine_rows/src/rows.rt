@@ -3,12 +3,13 @@
 //! is printed. Any other line is an event.
 use crate::bench::{Bench, limits_of};
 use crate::events::event_of;
-use crate::reading::{added_of, update_of};
-use crate::shown::{put, put_answer, put_files, put_number};
+use crate::reading::added_of;
+use crate::shown::{put_field, put_files};
 use gt_list::NoMemory;
 use gt_model::{Answer, Done, Event};
 use gt_plain_files::{PlainFiling, filed_all};
 use gt_plain_machine::{PlainState, opening};
+use row_words::{put, put_answer, update_of};
 use std::alloc::{AllocError, Global};
 use std::mem;
 
@@ -49,13 +50,13 @@ fn stage(alloc: Global, bench: &mut Bench, kind: &str, words: &str) -> Option<()
 }
 
 fn put_state(out: &mut Vec<u8>, state: &PlainState) -> Result<(), AllocError> {
-    put_number(out, b"front", state.front().unwrap_or(u64::MAX))?;
-    put_number(out, b"applied", state.applied)?;
-    put_number(out, b"floor", state.floor)?;
-    put_number(out, b"low", state.low_water())?;
-    put_number(out, b"epoch", state.epoch)?;
-    put_number(out, b"next", state.next)?;
-    put_number(out, b"live", state.pins.len() as u64)
+    put_field(out, b"front", state.front().unwrap_or(u64::MAX))?;
+    put_field(out, b"applied", state.applied)?;
+    put_field(out, b"floor", state.floor)?;
+    put_field(out, b"low", state.low_water())?;
+    put_field(out, b"epoch", state.epoch)?;
+    put_field(out, b"next", state.next)?;
+    put_field(out, b"live", state.pins.len() as u64)
 }
 
 fn event(

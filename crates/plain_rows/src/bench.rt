@@ -1,3 +1,4 @@
+use gt_list::ListOf;
 use gt_model::Entry;
 use gt_objset::ObjSet;
 use gt_plain::PlainContent;
@@ -24,7 +25,7 @@ impl Bench {
     pub(crate) fn new(alloc: Global, floor: u64) -> Option<Bench> {
         let refs = RefTable::start(alloc, floor).ok()?;
         let objects = ObjSet::start(alloc, floor).ok()?;
-        let table = Table::new(alloc).ok()?;
+        let table = Table::over(alloc, 0, &ListOf::new(alloc)).ok()?;
         Some(Bench {
             pending: Pending::new(alloc),
             entry: None,

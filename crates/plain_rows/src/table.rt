@@ -1,31 +1,15 @@
 //! The table of a log.
-ghost use Rattle.std.specs.Prelude.{◌≡◌, ◌≤◌, ◌+◌, None, IsTrue, length};
+ghost use Rattle.std.specs.Prelude.{◌≡◌, ◌≤◌, ◌+◌, IsTrue};
 ghost use Rattle.gt_model.specs.Contents.{fits as is_fit};
-ghost use Rattle.gt_table.specs.Table.{content};
-ghost use Rattle.gt_base.specs.Built.{is_built, IsBuilt};
+ghost use Rattle.gt_table.specs.Table.{front, content};
 
 use crate::asked::Asked;
 use crate::shown::{put_list, put_path, put_place};
-use gt_model::{Change, Entry};
+use gt_base::is_built;
+use gt_model::Entry;
 use gt_table::Table;
 use row_words::{name_of, put, put_value, ref_of};
 use std::alloc::{AllocError, Global};
-
-/// Whether a table takes entries of this kind.
-fn is_built(change: &Change) -> bool
-    ensures { result ≡ is_built change.now }
-{
-    match change {
-        Change::Create { .. } => true,
-        Change::Delete => true,
-        Change::Write { .. } => true,
-        Change::Link { .. } => false,
-        Change::Repack { .. } => false,
-        Change::Prune { .. } => false,
-        Change::PackRefs { .. } => false,
-        Change::Unlink { .. } => false,
-    }
-}
 
 /// Whether an entry fits at the front: `ok`, or what stands against it.
 pub(crate) fn fits(table: &Table, entry: &Entry) -> &'static str {
@@ -35,34 +19,23 @@ pub(crate) fn fits(table: &Table, entry: &Entry) -> &'static str {
     if table.fits(entry) { "fits" } else { "unfit" }
 }
 
-/// What stands against adding an entry.
-fn refused(table: &Table, entry: &Entry) -> Option<&'static str>
-    ensures { result ≡ None → (entry.now.position ≡ length table.now.log + 1) × IsBuilt entry.now × IsTrue (is_fit (content table.now.log) entry.now) }
-{
-    if table.front().checked_add(1) != Some(entry.position) {
-        return Some("not next");
-    }
-    if !is_built(&entry.change) {
-        return Some("not built");
-    }
-    if table.fits(entry) {
-        None
-    } else {
-        Some("unfit")
-    }
-}
-
 /// Adds an entry: `ok`, or what stands against it.
 pub(crate) fn add_table(alloc: Global, table: &mut Table, entry: Entry) -> &'static str {
-    if let Some(word) = refused(table, &entry) {
-        return word;
+    if table.front().checked_add(1) != Some(entry.position) {
+        return "not next";
+    }
+    if !is_built(&entry.change) {
+        return "not built";
+    }
+    if !table.fits(&entry) {
+        return "unfit";
     }
     add_fit(alloc, table, entry)
 }
 
 fn add_fit(alloc: Global, table: &mut Table, entry: Entry) -> &'static str
-    requires next { entry.position ≡ length table.old.log + 1 }
-    requires fit { IsTrue (is_fit (content table.old.log) entry) }
+    requires next { entry.position ≡ front table.old.past + 1 }
+    requires fit { IsTrue (is_fit (content table.old.past) entry) }
 {
     match table.prepare(alloc, &entry) {
         Ok(()) => {
@@ -81,7 +54,7 @@ pub(crate) fn row(
     question: &str,
     asked: &Asked,
 ) -> Result<(), AllocError> {
-    if table.front() < asked.at {
+    if asked.at < table.begin() || table.front() < asked.at {
         return put(out, b"no such position");
     }
     match question {
@@ -94,7 +67,8 @@ pub(crate) fn row(
 }
 
 fn get(out: &mut Vec<u8>, alloc: Global, table: &Table, asked: &Asked) -> Result<(), AllocError>
-    requires { asked.now.at ≤ length table.now.log }
+    requires from { table.now.past.begin ≤ asked.now.at }
+    requires to { asked.now.at ≤ front table.now.past }
 {
     match ref_of(alloc, asked.word) {
         Some(name) => put_value(out, table.value_at(asked.at, &asked.path, &name)),
@@ -103,7 +77,8 @@ fn get(out: &mut Vec<u8>, alloc: Global, table: &Table, asked: &Asked) -> Result
 }
 
 fn list(out: &mut Vec<u8>, alloc: Global, table: &Table, asked: &Asked) -> Result<(), AllocError>
-    requires { asked.now.at ≤ length table.now.log }
+    requires from { table.now.past.begin ≤ asked.now.at }
+    requires to { asked.now.at ≤ front table.now.past }
 {
     match table.list_at(alloc, asked.at, &asked.path, asked.word.as_bytes()) {
         Ok(list) => put_list(out, &list),
@@ -112,7 +87,8 @@ fn list(out: &mut Vec<u8>, alloc: Global, table: &Table, asked: &Asked) -> Resul
 }
 
 fn place(out: &mut Vec<u8>, table: &Table, asked: &Asked) -> Result<(), AllocError>
-    requires { asked.now.at ≤ length table.now.log }
+    requires from { table.now.past.begin ≤ asked.now.at }
+    requires to { asked.now.at ≤ front table.now.past }
 {
     match name_of(asked.word) {
         Some(name) => put_place(out, table.place_at(asked.at, &asked.path, &name)),

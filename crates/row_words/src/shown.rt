@@ -1,5 +1,5 @@
 //! What is printed: words with a space between each two.
-use gt_model::Refusal;
+use gt_model::{Answer, Refusal};
 use gt_name::{Name, Names};
 use gt_script::print_answer;
 use itoa::Buffer;
@@ -61,10 +61,15 @@ pub fn put_names(out: &mut Vec<u8>, names: &Names) -> Result<(), AllocError> {
     Ok(())
 }
 
-/// The line of a refusal, as a script's answer has it.
-pub fn put_refusal(out: &mut Vec<u8>, alloc: Global, refusal: Refusal) -> Result<(), AllocError> {
-    match print_answer(alloc, &Err(refusal)) {
+/// The line of an answer, as a script has it.
+pub fn put_answer(out: &mut Vec<u8>, alloc: Global, answer: &Answer) -> Result<(), AllocError> {
+    match print_answer(alloc, answer) {
         Ok(line) => put(out, line.trim_ascii_end()),
         Err(_) => put(out, b"memory"),
     }
+}
+
+/// The line of a refusal, as a script's answer has it.
+pub fn put_refusal(out: &mut Vec<u8>, alloc: Global, refusal: Refusal) -> Result<(), AllocError> {
+    put_answer(out, alloc, &Err(refusal))
 }

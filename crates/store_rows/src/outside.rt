@@ -1,5 +1,5 @@
 //! Rows on inputs, outputs and hosts alone, of which calls fail by a list, as `1,2`, or none, as `-`.
-ghost use Rattle.std.specs.Prelude.{◌≡◌, ℕ, false, IfSome};
+ghost use Rattle.std.specs.Prelude.{◌≡◌, false};
 
 use crate::words::{bytes_of, number, numbers};
 use gt_disk::{Disk, FileId, MemDisk};
@@ -7,6 +7,7 @@ use gt_outside::{
     Host, MemHost, MemSink, MemSource, Sink, Source, SteadySink, SteadySource, read_whole,
     write_whole,
 };
+use gt_play::host_of;
 use std::alloc::Global;
 use std::io;
 
@@ -119,7 +120,7 @@ fn write(rt: &impl Print, alloc: Global, faults: &str, pieces: &str) -> Option<i
 /// given back, and the clocks of the last two.
 fn take_disks(rt: &impl Print, alloc: Global, faults: &str) -> Option<io::Result<()>> {
     let faults = faults_of(alloc, faults)?;
-    let mut host = host_of(alloc, &faults)?;
+    let mut host = host_of(alloc, MemDisk::new(alloc).ok()?, &faults)?;
     let has_tenth = host.take(9).is_ok();
     if host.take(8).is_ok() {
         return Some(println!(rt; "no fault"));
@@ -127,20 +128,6 @@ fn take_disks(rt: &impl Print, alloc: Global, faults: &str) -> Option<io::Result
     let is_taken = take_and_give(&mut host);
     let (one, other) = (clock_of(&host, 7), clock_of(&host, 8));
     Some(println!(rt; "{has_tenth} {is_taken} {one:?} {other:?}"))
-}
-
-fn host_of(alloc: Global, faults: &[u64]) -> Option<MemHost>
-    ensures { IfSome result (λ host. (n : ℕ) → ⟦<MemHost as Host>⟧.is_out host n ≡ false) }
-{
-    let mut disks = Vec::new(alloc);
-    for _ in 0..9 {
-        disks.push(MemDisk::new(alloc).ok()?).ok()?;
-    }
-    if disks.len() == 9 {
-        MemHost::new(alloc, disks, faults).ok()
-    } else {
-        None
-    }
 }
 
 /// Whether the ninth disk was taken, and was out until it was given back.

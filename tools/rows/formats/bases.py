@@ -107,7 +107,7 @@ def blob(value):
 
 
 def pack_of(whole):
-    """How many records a pack has."""
+    """The records of a pack: name, place and length of each."""
     it = Fields(whole)
     it.take(4, lambda value: value == b"GTP1")
     items, last = [], None
@@ -115,16 +115,16 @@ def pack_of(whole):
         begin = it.at
         name = it.take(20, lambda value: last is None or last < value)
         length = it.number(4)
+        items.append((name, begin, it.at, length))
         it.take(length, blob)
-        items.append((name, begin))
         last = name
     index = it.at
-    for name, begin in items:
+    for name, begin, *_ in items:
         it.take(20, lambda value: value == name)
         it.number(8, lambda number: number == begin)
     it.number(8, lambda number: number == index)
     it.end()
-    return len(items)
+    return [(name, at, length) for name, _, at, length in items]
 
 
 def packed_of(whole):
@@ -175,7 +175,7 @@ def repo_words(files, repo):
     path, flag, pool, packs, packed, loose = repo
     yield f"repo {path.decode()} {'true' if flag else 'false'} {pool.decode() or '-'} packs"
     for number in packs:
-        yield f"{number}:{read(files, PACK, number, pack_of)}"
+        yield f"{number}:{len(read(files, PACK, number, pack_of))}"
     yield "packed"
     for name, value, peeled in read(files, PACKED, packed, packed_of) if packed else ():
         yield f"{name.decode()}={value.decode()}^{peeled.decode()}"

@@ -1,4 +1,5 @@
-use Rattle.std.proofs.Common.{refl, length}
+use Rattle.std.proofs.Common.{arith, refl, length}
+use Rattle.gt_journal.specs.Ledger.{front_of}
 use Rattle.gt_model.specs.declared.event.Event.TheVariants.{Begin}
 use Rattle.gt_pins.proofs.Positions.{reads_later}
 use Rattle.gt_act.specs.PartitionState.{state_of}
@@ -6,7 +7,7 @@ use Rattle.gt_act.proofs.Stepping.{then_acts, settling_moves, settling_pins}
 use Rattle.gt_act.proofs.beginning.begin.Goals as goal
 
 pub invariant_of-state : goal.invariant_of-state
-invariant_of-state g c = record { reads = reads_later (length c.args.state.now.journal.log) _ c.args.state.now.live c.settle.ensures.longer c.args.state.now.reads }
+invariant_of-state g c = record { reads = reads_later c.args.state.now.journal.past.begin _ (front_of c.args.state.now.journal) _ c.args.state.now.live (omega (arith, c.settle.ensures.begin)) c.settle.ensures.longer c.args.state.now.reads }
 
 pub returns-in-Err-clause-moves : goal.returns-in-Err-clause-moves
 returns-in-Err-clause-moves g c told = settling_moves c.args.limits.now (state_of c.args.state.now) _ _ _ (c.settle.ensures.moves told c.args.limits.now _ _)
@@ -16,4 +17,4 @@ returns-clause-step g c = then_acts c.args.limits.now (Begin c.args.path.now c.a
 
 pub returns-clause-moves : goal.returns-clause-moves
 returns-clause-moves g c told =
-    settling_pins c.args.limits.now (state_of c.args.state.now) _ c.begin_settled.new.state.journal c.args.state.now.live c.begin_settled.new.state.live _ _ c.begin_settled.ensures.log c.begin_settled.ensures.doubt (c.settle.ensures.moves told c.args.limits.now c.args.state.now.live c.args.state.now.live)
+    settling_pins c.args.limits.now (state_of c.args.state.now) _ c.begin_settled.new.state.journal c.args.state.now.live c.begin_settled.new.state.live _ _ c.begin_settled.ensures.journal (c.settle.ensures.moves told c.args.limits.now c.args.state.now.live c.args.state.now.live)

@@ -1,21 +1,22 @@
-use Rattle.std.proofs.Common.{inl, List, length, refl, sym, subst}
+use Rattle.std.proofs.Common.{inl, List, arith, refl, sym, subst}
+use Rattle.gt_journal.specs.Ledger.{front_of}
 use Rattle.gt_model.specs.Machine.{Pin}
-use Rattle.gt_pins.specs.Live.{ReadBefore}
+use Rattle.gt_pins.specs.Live.{ReadIn}
 use Rattle.gt_pins.proofs.Positions.{reads_later, reads_released}
 use Rattle.gt_act.proofs.Stepping.{fewer_by, write_adds}
 use Rattle.gt_act.proofs.committing.add_write.Goals as goal
 
 pub invariant_of-state : goal.invariant_of-state
 invariant_of-state g c =
-    let n = length c.add.new.self.log in
-    let later = reads_later (length c.args.state.now.journal.log) n c.args.state.now.live c.add.ensures.longer c.args.state.now.reads in
-    record { reads = subst (λ (pins : List Pin). ReadBefore n pins) (sym c.release.ensures) (reads_released n c.args.state.now.live c.args.pin.now later) }
+    let j = c.add.new.self in
+    let later = reads_later c.args.state.now.journal.past.begin j.past.begin (front_of c.args.state.now.journal) (front_of j) c.args.state.now.live (omega (arith, c.add.ensures.begin)) c.add.ensures.longer c.args.state.now.reads in
+    record { reads = subst (λ (pins : List Pin). ReadIn j.past.begin (front_of j) pins) (sym c.release.ensures) (reads_released j.past.begin (front_of j) c.args.state.now.live c.args.pin.now later) }
 
 pub invariant_of-state-in-Err-Unsure : goal.invariant_of-state-in-Err-Unsure
 invariant_of-state-in-Err-Unsure g c =
-    let n = length c.add.new.self.log in
-    let later = reads_later (length c.args.state.now.journal.log) n c.args.state.now.live c.add.ensures.longer c.args.state.now.reads in
-    record { reads = subst (λ (pins : List Pin). ReadBefore n pins) (sym c.release-in-Err-Unsure.ensures) (reads_released n c.args.state.now.live c.args.pin.now later) }
+    let j = c.add.new.self in
+    let later = reads_later c.args.state.now.journal.past.begin j.past.begin (front_of c.args.state.now.journal) (front_of j) c.args.state.now.live (omega (arith, c.add.ensures.begin)) c.add.ensures.longer c.args.state.now.reads in
+    record { reads = subst (λ (pins : List Pin). ReadIn j.past.begin (front_of j) pins) (sym c.release-in-Err-Unsure.ensures) (reads_released j.past.begin (front_of j) c.args.state.now.live c.args.pin.now later) }
 
 pub returns-in-Ok-clause-adds : goal.returns-in-Ok-clause-adds
 returns-in-Ok-clause-adds g c = inl (write_adds c.args.state.now.journal c.add.new.self c.args.state.now.live _ c.args.entry c.args.pin.now _ refl c.release.ensures (c.in-Ok.ensures.added c.args.state.now.live c.release.new.self))

@@ -1,4 +1,5 @@
-use Rattle.std.proofs.Common.{rules, ◌≡◌, true, false, refl, length, ap, ◌∙◌, not}
+use Rattle.std.proofs.Common.{arith, rules, ◌≡◌, true, false, refl, length, ap, ◌∙◌, not}
+use Rattle.gt_journal.specs.Ledger.{front_of}
 use Rattle.gt_model.specs.declared.event.Event.TheVariants.{Commit}
 use Rattle.gt_model.specs.Machine.{is_empty, is_live_as, is_transaction}
 use Rattle.gt_pins.proofs.Positions.{reads_later}
@@ -8,7 +9,7 @@ use Rattle.gt_act.proofs.Stepping.{then_acts, settling_moves, settled_moves, few
 use Rattle.gt_act.proofs.committing.commit.Goals as goal
 
 pub invariant_of-state : goal.invariant_of-state
-invariant_of-state g c = record { reads = reads_later (length c.args.state.now.journal.log) _ c.args.state.now.live c.settle.ensures.longer c.args.state.now.reads }
+invariant_of-state g c = record { reads = reads_later c.args.state.now.journal.past.begin _ (front_of c.args.state.now.journal) _ c.args.state.now.live (omega (arith, c.settle.ensures.begin)) c.settle.ensures.longer c.args.state.now.reads }
 
 pub returns-then-is_empty-clause-fewer : goal.returns-then-is_empty-clause-fewer
 returns-then-is_empty-clause-fewer g c = fewer_by c.args.state.now.live _ c.args.pin.now c.finish.ensures.live
@@ -27,7 +28,7 @@ returns-then-is_empty-clause-step g c =
     let live : is_live_as is_transaction c.args.state.now.live c.args.pin.now ≡ true = c.are_transactions.ensures c.args.pin.now ∙ c.requires in
     let none : is_empty refs records ≡ true = search rules in
     finish_steps c.args.limits.now c.args.state.now.journal c.finish.new.state.journal c.args.state.now.live c.finish.new.state.live c.args.pin.now refs records c.of.result.answer live none
-    (c.of.ensures.answer ∙ ap answer_of c.finish.ensures.answer) c.finish.ensures.log c.finish.ensures.doubt c.finish.ensures.live
+    (c.of.ensures.answer ∙ ap answer_of c.finish.ensures.answer) c.finish.ensures.journal c.finish.ensures.live
 
 pub returns-clause-step : goal.returns-clause-step
 returns-clause-step g c =

@@ -1,4 +1,5 @@
 use Rattle.std.proofs.Common.{◌≡◌, inl, inr, ⊎_elim, length, nat_eq, is_some, Option, Result, Ok, refl, sym, ap, subst, ◌∙◌}
+use Rattle.gt_journal.specs.Ledger.{front_of}
 use Rattle.sha1.specs.Sha1.{sha1}
 use Rattle.gt_model.specs.declared.done.Done.{Done}
 use Rattle.gt_model.specs.declared.done.Done.TheVariants.{Finished}
@@ -16,7 +17,8 @@ use Rattle.gt_act.proofs.objects.cat.Goals as goal
 
 pub place_at-requires : goal.place_at-requires
 place_at-requires g c =
-    rw c.table.ensures (reads_found (length c.args.state.now.journal.log) (λ (p : Pin). nat_eq p.number c.args.pin.now) c.args.state.now.live (pin_of c.get-live.result.now) c.args.state.now.reads c.get-live.ensures)
+    let r = reads_found c.args.state.now.journal.past.begin (front_of c.args.state.now.journal) (λ (p : Pin). nat_eq p.number c.args.pin.now) c.args.state.now.live (pin_of c.get-live.result.now) c.args.state.now.reads c.get-live.ensures in
+    rw c.table.ensures (record { from = r.0; to = r.1 })
 
 pub returns-in_default-clause-happens : goal.returns-in_default-clause-happens
 returns-in_default-clause-happens g c =
@@ -91,7 +93,7 @@ returns-in-Err-Damaged-clause-gives g c told =
     let fetches = rw c.in-Err-Damaged.field-0-is at c.in-Err-Damaged.ensures.fetches in
     let held = held_so limits l pins c.args.pin.now c.requires p here c.args.name.now c.in-Some.place (λ (place : Place). (c.in-Some.place.file ≡ place.file) × (c.in-Some.place.at ≡ place.at) × (IsRecordOf c.args.name.now (piece (files place.file) place) → ⊥)) at
     (refl, refl, fetches told) in
-    subst (λ (a : Result Done Refusal). CatGives (state_of c.args.state.now) c.args.pin.now c.args.name.now files a) (sym c.of-in-Err-Damaged.ensures.answer) held
+    subst (λ (a : Result Done Refusal). CatGives c.args.state.now.journal.past (state_of c.args.state.now) c.args.pin.now c.args.name.now files a) (sym c.of-in-Err-Damaged.ensures.answer) held
 
 pub returns-in-Err-Memory-clause-happens : goal.returns-in-Err-Memory-clause-happens
 returns-in-Err-Memory-clause-happens g c =

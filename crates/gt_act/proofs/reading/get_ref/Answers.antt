@@ -1,4 +1,5 @@
 use Rattle.std.proofs.Common.{◌≡◌, length, nat_eq}
+use Rattle.gt_journal.specs.Ledger.{front_of}
 use Rattle.gt_model.specs.Machine.{Pin, pin_of as pin_in}
 use Rattle.gt_act.specs.PartitionState.{state_of}
 use Rattle.gt_pins.specs.Live.{pin_of}
@@ -9,7 +10,8 @@ use Rattle.gt_act.proofs.reading.get_ref.Goals as goal
 
 pub value_at-requires : goal.value_at-requires
 value_at-requires c =
-    rw c.table.ensures (reads_found (length c.args.state.now.journal.log) (λ (p : Pin). nat_eq p.number c.args.pin.now) c.args.state.now.live (pin_of c.get-live.result.now) c.args.state.now.reads c.get-live.ensures)
+    let r = reads_found c.args.state.now.journal.past.begin (front_of c.args.state.now.journal) (λ (p : Pin). nat_eq p.number c.args.pin.now) c.args.state.now.live (pin_of c.get-live.result.now) c.args.state.now.reads c.get-live.ensures in
+    rw c.table.ensures (record { from = r.0; to = r.1 })
 
 pub returns-clause-step : goal.returns-clause-step
 returns-clause-step c =

@@ -13,7 +13,7 @@ returns-in-Ok-clause-spelled g c =
     inr (c.requires.built, entry_again (spelling e) e c.in-Ok.ensures.typed c.requires.spelling refl)
 
 pub returns-in-Ok-clause-any_moment : goal.returns-in-Ok-clause-any_moment
-returns-in-Ok-clause-any_moment g c told entries count stands =
+returns-in-Ok-clause-any_moment g c told first entries count stands =
     let v = g.D.Disk.view c.args.disk.now in
     let bytes : c.deref.result.now ≡ encode c.args.entry.now = cc (c.deref.ensures.value, c.in-Ok.ensures.text) in
-    subst (λ (b : List ℕ). Since (AddMoment c.add.result 1 entries b (now v)) v (g.D.Disk.view c.add.new.disk)) bytes (c.add.ensures.any_moment told 1 entries count stands)
+    subst (λ (b : List ℕ). Since (AddMoment c.add.result first entries b (now v)) v (g.D.Disk.view c.add.new.disk)) bytes (c.add.ensures.any_moment told first entries count stands)

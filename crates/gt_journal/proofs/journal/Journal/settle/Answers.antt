@@ -1,8 +1,9 @@
-use Rattle.std.proofs.Common.{◌≡◌, ◌∙◌, ◌++◌, ◌∷◌, [], List, length, sym, ap, refl, map, inl, inr, None, Some}
+use Rattle.std.proofs.Common.{◌≡◌, ◌∙◌, ◌++◌, ◌+◌, ◌∷◌, [], List, ap, sym, refl, map, inl, inr, None, Some}
 use Rattle.gt_model.specs.declared.entry.Entry.{Entry}
-use Rattle.gt_journal.specs.Ledger.{Ledger}
+use Rattle.gt_table.specs.Table.{Past, front}
+use Rattle.gt_journal.specs.Ledger.{Ledger, changed}
 use Rattle.gt_base.specs.Spelling.{encode}
-use Rattle.gt_journal.proofs.Moves.{settled, still_in_doubt, counted, settled_state}
+use Rattle.gt_journal.proofs.Moves.{ledger_is, settling_as, settled_in, settled_out, still_in_doubt, counted, settled_state}
 use Rattle.gt_journal.proofs.journal.Journal.settle.Goals as goal
 
 pub add-requires-clause-room : goal.add-requires-clause-room
@@ -18,54 +19,89 @@ invariant_of-self-inside-in-Err g c =
         c.in-Err.ensures.err.1,
         (
           (λ e is. c.self.inside.built e (there ∙ is)),
-          ((λ e is. c.self.inside.next e (there ∙ is)), ((λ e is. c.self.inside.fit e (there ∙ is)), ((λ e is. c.self.inside.room e (there ∙ is)), tt))),
+          ((λ e is. c.self.inside.after e (there ∙ is)), ((λ e is. c.self.inside.fit e (there ∙ is)), ((λ e is. c.self.inside.room e (there ∙ is)), tt))),
         ),
       ),
     )
 
 pub returns-in-Ok-true-clause-moves : goal.returns-in-Ok-true-clause-moves
-returns-in-Ok-true-clause-moves g c told = λ limits before after.
-    let log = c.args.self.now.log in
+returns-in-Ok-true-clause-moves g c told =
+    let old = c.args.self.now in
     let u = c.in-Some.entry in
-    let same : c.self.inside.table.log ≡ log = ap (λ (l : Ledger). l.log) c.self.view_is in
-    let count = counted c.self.inside.log.len log (c.self.inside.counts ∙ ap (λ (l : List Entry). length l) same) in
+    let past : c.self.inside.table.past ≡ old.past = ap (λ (l : Ledger). l.past) c.self.view_is in
     let there : c.self.inside.doubt ≡ Some u = cc in
-    let here : c.args.self.now.doubt ≡ Some u = ap (λ (l : Ledger). l.doubt) (sym c.self.view_is) ∙ there in
+    let here : old.doubt ≡ Some u = ap (λ (l : Ledger). l.doubt) (sym c.self.view_is) ∙ there in
+    let epoch = ap (λ (l : Ledger). l.epoch) c.self.view_is in
+    let numbers = ap (λ (l : Ledger). l.manifest_next) c.self.view_is in
+    let next = ap (λ (l : Ledger). l.next) c.self.view_is in
     let gone : c.take.new.self ≡ None = cc in
-    settled limits before after c.args.self.now _ u c.in-Ok-true.field-0 c.settle.new.self.len _ _ here
-    (c.in-Ok-true.ensures.any_moment told 1 (map encode log) (encode u) count) (c.in-Ok-true.ensures.after told 1 (map encode log) (encode u) count)
-    gone (inl (c.in-Ok-true.field-0-test, c.add.ensures ∙ ap (λ (l : List Entry). l ++ u ∷ []) same))
+    let items : c.add.new.self.past ≡ record old.past { log = old.past.log ++ u ∷ [] } = c.add.ensures ∙ ap (λ (p : Past). record p { log = p.log ++ u ∷ [] }) past in
+    let is = ledger_is old _ (old.past.log ++ u ∷ []) None items gone epoch numbers next in
+    let count = counted c.self.inside.log.len old (c.self.inside.counts ∙ ap front past) in
+    λ limits before after.
+    settling_as limits old _ _ before after _ _ is
+    (settled_in limits old before after u c.settle.new.self.len _ _ here (c.in-Ok-true.ensures.any_moment told (old.past.begin + 1) (map encode old.past.log) (encode u) count)
+    (rw c.in-Ok-true.field-0-test at (c.in-Ok-true.ensures.after told (old.past.begin + 1) (map encode old.past.log) (encode u) count)))
 
 pub returns-in-Ok-false-clause-moves : goal.returns-in-Ok-false-clause-moves
-returns-in-Ok-false-clause-moves g c told = λ limits before after.
-    let log = c.args.self.now.log in
+returns-in-Ok-false-clause-moves g c told =
+    let old = c.args.self.now in
     let u = c.in-Some.entry in
-    let same : c.self.inside.table.log ≡ log = ap (λ (l : Ledger). l.log) c.self.view_is in
-    let count = counted c.self.inside.log.len log (c.self.inside.counts ∙ ap (λ (l : List Entry). length l) same) in
+    let past : c.self.inside.table.past ≡ old.past = ap (λ (l : Ledger). l.past) c.self.view_is in
     let there : c.self.inside.doubt ≡ Some u = cc in
-    let here : c.args.self.now.doubt ≡ Some u = ap (λ (l : Ledger). l.doubt) (sym c.self.view_is) ∙ there in
+    let here : old.doubt ≡ Some u = ap (λ (l : Ledger). l.doubt) (sym c.self.view_is) ∙ there in
+    let epoch = ap (λ (l : Ledger). l.epoch) c.self.view_is in
+    let numbers = ap (λ (l : Ledger). l.manifest_next) c.self.view_is in
+    let next = ap (λ (l : Ledger). l.next) c.self.view_is in
     let gone : c.take.new.self ≡ None = cc in
-    settled limits before after c.args.self.now _ u c.in-Ok-false.field-0 c.settle.new.self.len _ _ here
-    (c.in-Ok-false.ensures.any_moment told 1 (map encode log) (encode u) count) (c.in-Ok-false.ensures.after told 1 (map encode log) (encode u) count)
-    gone (inr (c.in-Ok-false.field-0-test, same))
+    let is = ledger_is old _ old.past.log None past gone epoch numbers next in
+    let count = counted c.self.inside.log.len old (c.self.inside.counts ∙ ap front past) in
+    λ limits before after.
+    settling_as limits old _ _ before after _ _ is
+    (settled_out limits old before after u c.settle.new.self.len _ _ here (c.in-Ok-false.ensures.any_moment told (old.past.begin + 1) (map encode old.past.log) (encode u) count)
+    (rw c.in-Ok-false.field-0-test at (c.in-Ok-false.ensures.after told (old.past.begin + 1) (map encode old.past.log) (encode u) count)))
 
 pub returns-in-Err-clause-moves : goal.returns-in-Err-clause-moves
-returns-in-Err-clause-moves g c told = λ limits before after.
-    let log = c.args.self.now.log in
+returns-in-Err-clause-moves g c told =
+    let old = c.args.self.now in
     let u = c.in-Some.entry in
-    let same : c.self.inside.table.log ≡ log = ap (λ (l : Ledger). l.log) c.self.view_is in
-    let count = counted c.self.inside.log.len log (c.self.inside.counts ∙ ap (λ (l : List Entry). length l) same) in
+    let past : c.self.inside.table.past ≡ old.past = ap (λ (l : Ledger). l.past) c.self.view_is in
     let there : c.self.inside.doubt ≡ Some u = cc in
-    let here : c.args.self.now.doubt ≡ Some u = ap (λ (l : Ledger). l.doubt) (sym c.self.view_is) ∙ there in
-    still_in_doubt limits before after c.args.self.now _ u _ _ here same refl
-    (c.in-Err.ensures.any_moment told 1 (map encode log) (encode u) count) (c.in-Err.ensures.after told 1 (map encode log) (encode u) count)
+    let here : old.doubt ≡ Some u = ap (λ (l : Ledger). l.doubt) (sym c.self.view_is) ∙ there in
+    let epoch = ap (λ (l : Ledger). l.epoch) c.self.view_is in
+    let numbers = ap (λ (l : Ledger). l.manifest_next) c.self.view_is in
+    let next = ap (λ (l : Ledger). l.next) c.self.view_is in
+    let count = counted c.self.inside.log.len old (c.self.inside.counts ∙ ap front past) in
+    λ limits before after.
+    let is = ledger_is old _ old.past.log (Some u) past refl epoch numbers next in
+    settling_as limits old _ _ before after _ _ is
+    (still_in_doubt limits old before after u _ _ here (c.in-Err.ensures.any_moment told (old.past.begin + 1) (map encode old.past.log) (encode u) count) (c.in-Err.ensures.after told (old.past.begin + 1) (map encode old.past.log) (encode u) count))
 
 pub returns-in-Ok-true-clause-settles : goal.returns-in-Ok-true-clause-settles
 returns-in-Ok-true-clause-settles g c pins =
-    let log = c.args.self.now.log in
+    let old = c.args.self.now in
     let u = c.in-Some.entry in
-    let same : c.self.inside.table.log ≡ log = ap (λ (l : Ledger). l.log) c.self.view_is in
+    let past : c.self.inside.table.past ≡ old.past = ap (λ (l : Ledger). l.past) c.self.view_is in
     let there : c.self.inside.doubt ≡ Some u = cc in
-    let here : c.args.self.now.doubt ≡ Some u = ap (λ (l : Ledger). l.doubt) (sym c.self.view_is) ∙ there in
+    let here : old.doubt ≡ Some u = ap (λ (l : Ledger). l.doubt) (sym c.self.view_is) ∙ there in
+    let epoch = ap (λ (l : Ledger). l.epoch) c.self.view_is in
+    let numbers = ap (λ (l : Ledger). l.manifest_next) c.self.view_is in
+    let next = ap (λ (l : Ledger). l.next) c.self.view_is in
     let gone : c.take.new.self ≡ None = cc in
-    settled_state c.args.self.now _ u pins here (c.self.inside.built u there) gone (inr (c.add.ensures ∙ ap (λ (l : List Entry). l ++ u ∷ []) same))
+    let items : c.add.new.self.past ≡ record old.past { log = old.past.log ++ u ∷ [] } = c.add.ensures ∙ ap (λ (p : Past). record p { log = p.log ++ u ∷ [] }) past in
+    let is = ledger_is old _ (old.past.log ++ u ∷ []) None items gone epoch numbers next in
+    settled_state old _ u pins here (inr is)
+
+pub returns-in-Ok-false-clause-settles : goal.returns-in-Ok-false-clause-settles
+returns-in-Ok-false-clause-settles g c pins =
+    let old = c.args.self.now in
+    let u = c.in-Some.entry in
+    let past : c.self.inside.table.past ≡ old.past = ap (λ (l : Ledger). l.past) c.self.view_is in
+    let there : c.self.inside.doubt ≡ Some u = cc in
+    let here : old.doubt ≡ Some u = ap (λ (l : Ledger). l.doubt) (sym c.self.view_is) ∙ there in
+    let epoch = ap (λ (l : Ledger). l.epoch) c.self.view_is in
+    let numbers = ap (λ (l : Ledger). l.manifest_next) c.self.view_is in
+    let next = ap (λ (l : Ledger). l.next) c.self.view_is in
+    let gone : c.take.new.self ≡ None = cc in
+    let is = ledger_is old _ old.past.log None past gone epoch numbers next in
+    settled_state old _ u pins here (inl is)

@@ -16,6 +16,6 @@ returns-clause-called g c = rw (← c.self.view_is) (
     let e = c.cat-reply.ensures in
     let p : Shown _ = record { number = c.self.inside.number; disk = c.self.inside.disk; limits = c.self.inside.limits; ledger = c.self.inside.state.journal; live = c.self.inside.state.live; opening = c.self.inside.trail.opening; trail = c.self.inside.trail.turns.0 } in
     let asked : Cat c.number.result c.args.name.now ≡ Cat c.args.pin.now c.args.name.now = ap (λ n. Cat n c.args.name.now) c.number.ensures in
-    read_called _ _ _ _ _ _ _ _ _ _ _ _ _ _ _ asked c.note.ensures.answer e.kept c.tick-tick.ensures refl refl (c.note.ensures.opening ∙ c.take_room.ensures.opening) c.take_room.ensures.same c.note.ensures.turns tt e.happens.step e.happens.same e.happens.like (λ no. absurd (cc (no))) e.cause (omega (arith, e.counted)) (λ told. moves_quiet _ _ _ _ (e.quiet told))
+    read_called _ _ _ _ _ _ _ _ _ _ _ _ _ _ _ asked c.note.ensures.answer e.kept c.tick-tick.ensures refl refl (c.note.ensures.opening ∙ c.take_room.ensures.opening) c.take_room.ensures.same c.note.ensures.turns tt e.happens.step e.happens.same e.happens.like (λ no. absurd (cc (no))) e.cause (omega (arith, e.counted)) (λ told. moves_quiet _ _ _ _ (e.quiet told)) refl
     (λ told start begin history run.
-    cat_steps _ _ _ _ _ (g.D.Disk.view c.self.inside.disk) (run_stored g.D.Disk.view start begin history p run) (run_sound g.D.Disk.view start begin history p run) (g.met.D.Disk.shows c.self.inside.disk told) (run_few g.D.Disk.view start begin history p run (omega arith)) _ _ e.happens.step e.happens.same e.happens.named (e.gives told)))
+    cat_steps _ _ _ _ _ (g.D.Disk.view c.self.inside.disk) (run_stored g.D.Disk.view start begin history p run) run.2 (run_sound g.D.Disk.view start begin history p run) (g.met.D.Disk.shows c.self.inside.disk told) (run_few g.D.Disk.view start begin history p run (omega arith)) _ _ e.happens.step e.happens.same e.happens.named (e.gives told)))

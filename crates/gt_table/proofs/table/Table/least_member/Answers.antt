@@ -1,14 +1,11 @@
-use Rattle.std.proofs.Common.{◌∙◌, ℕ, ap}
 use Rattle.std.specs.Option.{option_copied}
-use Rattle.gt_model.specs.Contents.{nothing, at, least_member}
-use Rattle.gt_table.specs.Table.{nowhere}
+use Rattle.gt_base.specs.Held.{content_of, places_of}
 use Rattle.gt_table.proofs.FollowLaws.{member_here}
 use Rattle.gt_table.proofs.table.Table.least_member.Goals as goal
 
 pub returns : goal.returns
 returns c =
-    let log = c.self.inside.entries.0 in
-    let floor = c.self.inside.objects.floor in
-    let front = rw (← c.self.view_is) at c.front.ensures in
-    let said = c.least_member.ensures nothing nowhere log c.self.invariant.objects ∙ ap (λ (n : ℕ). least_member (at floor nothing log n) c.args.path.now) front in
-    rw (← c.self.view_is) (member_here _ (option_copied c.least_member.result) c.args.path.now c.self.invariant said)
+    let repos = c.self.inside.repos.value in
+    let last = rw (← c.self.view_is) at c.front.ensures in
+    let said = c.least_member.ensures (content_of repos) (places_of repos) c.self.inside.entries.0 c.self.invariant.objects in
+    rw (← c.self.view_is) (member_here _ (option_copied c.least_member.result) c.front.result c.args.path.now c.self.invariant last said)

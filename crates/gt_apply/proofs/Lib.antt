@@ -1,0 +1,10 @@
+pub mod FitLaws
+pub mod FieldLaws
+pub mod HeadLaws
+pub mod NumberLaws
+pub mod SlotLaws
+pub mod Lists
+pub mod TreeLaws
+pub mod PlacedLaws
+pub mod WriteLaws
+pub mod DraftLaws

@@ -1,0 +1,4 @@
+pub mod Plan
+pub mod Seen
+pub mod Steps
+pub mod Fitting
