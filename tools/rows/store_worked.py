@@ -331,7 +331,7 @@ BAD_INPUTS = [
 ]
 NOT_YET = [
     (["1 create a.git", "1 pool p.git", "1 commit"], "not yet 2"), (["1 create a.git near b.git"], "not yet 1"),
-    (["1 begin a.git from 1"], "not yet 1"), (["1 apply 1 1"], "not yet 1"),
+    (["1 begin a.git from 1"], "not yet 1"), (["1 trim 1"], "not yet 1"),
 ]
 
 # Five entries, and six of another store.

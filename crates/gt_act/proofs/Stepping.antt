@@ -18,8 +18,7 @@ use Rattle.gt_model.specs.declared.refusal.Refusal.TheVariants.{Memory, DeviceFa
 use Rattle.gt_model.specs.Machine.{State, Pin, Effect, Fails, effect, reading, pin_of, released, is_live_as, is_transaction, is_empty, committed, answers, front, content, is_full, next_entry, with_entry, with_pins, refuses, adds, unless, is_asked, settles, settles_turn, after_fault, RunsOut, Ends, Acts, SettledEntry, SettledTurn, Step}
 use Rattle.gt_model.specs.Contents.{has_repo, least_member}
 use Rattle.gt_history.proofs.Moves as moves
-use Rattle.gt_disk.specs.Kinds.{pack_file}
-use Rattle.gt_journal.specs.Ledger.{Ledger, Stored, KeepsPacks, state_of}
+use Rattle.gt_journal.specs.Ledger.{Ledger, Stored, KeepsBase, state_of}
 use Rattle.gt_base.specs.Recovery.{recover, Keeps, counters}
 use Rattle.gt_journal.specs.Histories.{Moves, Settling}
 use Rattle.gt_act.specs.declared.ended.Ended.{Ended}
@@ -62,27 +61,27 @@ module _ (limits : Limits) where
   pub settling_moves : (old mid : State) (v w : View) → Settling limits old mid v w → Moves limits old mid v w
   settling_moves old mid v w settling = (moves.settling_still (recover limits) (Keeps limits) counters (Stored limits) old mid mid v w settling.0 (λ stored. stored), settling.1)
 
-  packs_join : (u v w : View) → KeepsPacks u v → KeepsPacks v w → KeepsPacks u w
-  packs_join u v w one two n = two n ∙ one n
+  keeps_join : (u v w : View) → KeepsBase u v → KeepsBase v w → KeepsBase u w
+  keeps_join u v w one two f is = two f is ∙ one f is
 
   pub settled_moves : (old mid new : State) (u v w : View) → SettledEntry true old mid → mid.doubt ≡ None → Settling limits old mid u v → Moves limits mid new v w → Moves limits old new u w
   settled_moves old mid new u v w settled clear settling moved =
-      (moves.settled_moves (recover limits) (Keeps limits) counters (Stored limits) old mid new u v w settled clear settling.0 moved.0, λ stored. packs_join u v w (settling.1 stored) (moved.1 (settling.0 stored).0))
+      (moves.settled_moves (recover limits) (Keeps limits) counters (Stored limits) old mid new u v w settled clear settling.0 moved.0, λ stored. keeps_join u v w (settling.1 stored) (moved.1 (settling.0 stored).0))
 
   -- the same log and doubt, whatever is live
   pub same_files : (l m : Ledger) (pins after : List Pin) (states : States) → m ≡ l → Stored limits (state_of l pins) states → Stored limits (state_of m after) states
-  same_files l m pins after states same stored = subst (λ (x : Ledger). Stored limits (state_of x after) states) (sym same) (record { applied = stored.applied; turning = stored.turning; by = stored.by })
+  same_files l m pins after states same stored = subst (λ (x : Ledger). Stored limits (state_of x after) states) (sym same) (record { files = stored.files; legal = stored.legal; within = stored.within; order = record { from = stored.order.from; to = stored.order.to; turn = stored.order.turn }; base = stored.base; turn = stored.turn })
 
   pub settling_pins : (old : State) (l m : Ledger) (pins after : List Pin) (v w : View) → m ≡ l → Settling limits old (state_of l pins) v w → Moves limits old (state_of m after) v w
   settling_pins old l m pins after v w same settling =
       (moves.settling_still (recover limits) (Keeps limits) counters (Stored limits) old (state_of l pins) (state_of m after) v w settling.0 (same_files l m pins after (now w) same), settling.1)
 
   pub moves_pins : (l m : Ledger) (pins after : List Pin) (v : View) → m ≡ l → Moves limits (state_of l pins) (state_of m after) v v
-  moves_pins l m pins after v same = (moves.moves_still (recover limits) (Keeps limits) counters (Stored limits) (state_of l pins) (state_of m after) v (same_files l m pins after (now v) same), λ stored n. refl)
+  moves_pins l m pins after v same = (moves.moves_still (recover limits) (Keeps limits) counters (Stored limits) (state_of l pins) (state_of m after) v (same_files l m pins after (now v) same), λ stored f is. refl)
 
   pub moves_quiet : (s : State) (v w : View) → Quiet v w → Moves limits s s v w
   moves_quiet s v w quiet =
-      (moves.moves_quiet (recover limits) (Keeps limits) counters (Stored limits) s s v w quiet (λ stored. stored), λ stored n. ap (λ (s : States). s (pack_file n)) (ap (λ (k : ℕ). w.at k) quiet.clock ∙ ap (λ (a : ℕ → States). a v.clock) quiet.at))
+      (moves.moves_quiet (recover limits) (Keeps limits) counters (Stored limits) s s v w quiet (λ stored. stored), λ stored f is. ap (λ (s : States). s f) (ap (λ (k : ℕ). w.at k) quiet.clock ∙ ap (λ (a : ℕ → States). a v.clock) quiet.at))
 
 -- ---- entries
 

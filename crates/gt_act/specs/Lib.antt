@@ -4,3 +4,4 @@ pub mod Cat
 pub mod Causes
 pub mod Ended
 pub mod Live
+pub mod Turning

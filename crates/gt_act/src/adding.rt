@@ -1,4 +1,4 @@
-ghost use Rattle.gt_journal.specs.Ledger.{front_of};
+ghost use Rattle.gt_journal.specs.Ledger.{front_of, known};
 ghost use Rattle.gt_table.specs.Table as table;
 ghost use Rattle.std.specs.Prelude.{◌≡◌, ◌≤◌, ◌+◌, IsTrue, IfErr, OnOk, None, Err, true, length};
 ghost use Rattle.gt_entry.specs.Fits.{HasChangeSpelling};
@@ -40,7 +40,7 @@ pub(crate) fn add_change<D: Disk>(
     ensures sure { OnOk result (D.fault_count disk.new ≡ D.fault_count disk.old) }
     ensures cause { IfErr result (λ ended. CallCause (D.fault_count disk.old) (D.fault_count disk.new) (answer_of ended)) }
     ensures counted { D.call_count disk.new ≤ D.call_count disk.old + 4 }
-    ensures repos { state.new.journal.past.repos ≡ state.old.journal.past.repos }
+    ensures known { known state.new.journal ≡ known state.old.journal }
     ensures moves { IsTrue D.tells → Moves limits.now (state_of state.old) (state_of state.new) (D.view disk.old) (D.view disk.new) }
 {
     let front = state.journal.table().front();
@@ -74,7 +74,7 @@ fn add_entry<D: Disk>(
     ensures sure { OnOk result (D.fault_count disk.new ≡ D.fault_count disk.old) }
     ensures cause { IfErr result (λ ended. CallCause (D.fault_count disk.old) (D.fault_count disk.new) (answer_of ended)) }
     ensures counted { D.call_count disk.new ≤ D.call_count disk.old + 4 }
-    ensures repos { state.new.journal.past.repos ≡ state.old.journal.past.repos }
+    ensures known { known state.new.journal ≡ known state.old.journal }
     ensures moves { IsTrue D.tells → Moves limits.now (state_of state.old) (state_of state.new) (D.view disk.old) (D.view disk.new) }
 {
     let position = entry.position;

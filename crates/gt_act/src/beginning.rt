@@ -1,4 +1,4 @@
-ghost use Rattle.gt_journal.specs.Ledger.{front_of};
+ghost use Rattle.gt_journal.specs.Ledger.{front_of, known};
 ghost use Rattle.std.specs.Prelude.{◌≡◌, ◌≤◌, ◌<◌, ◌+◌, length, false, IsTrue, None};
 ghost use Rattle.gt_model.specs.declared.event.Event.{Event};
 ghost use Rattle.gt_model.specs.Machine.{Step, Acts, is_faulty, free_number};
@@ -29,7 +29,7 @@ pub fn begin<D: Disk>(
     ensures gives { GivesPin (answer_of result.0) result.1 (free_number state.old.live) }
     ensures cause { CallCause (D.fault_count disk.old) (D.fault_count disk.new) (answer_of result.0) }
     ensures counted { D.call_count disk.new ≤ D.call_count disk.old + settling_calls state.old.journal.doubt }
-    ensures repos { state.new.journal.past.repos ≡ state.old.journal.past.repos }
+    ensures known { known state.new.journal ≡ known state.old.journal }
     ensures moves { IsTrue D.tells → Moves limits.now (state_of state.old) (state_of state.new) (D.view disk.old) (D.view disk.new) }
 {
     if let Err(Failed) = state.journal.settle(disk) {

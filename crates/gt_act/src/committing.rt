@@ -1,4 +1,4 @@
-ghost use Rattle.gt_journal.specs.Ledger.{front_of};
+ghost use Rattle.gt_journal.specs.Ledger.{front_of, known};
 ghost use Rattle.gt_table.specs.Table as table;
 ghost use Rattle.std.specs.Prelude.{◌≡◌, ◌≤◌, ◌⊎◌, ◌+◌, length, true, false, IsTrue, None, Err};
 ghost use Rattle.gt_model.specs.declared.event.Event.{Event};
@@ -40,7 +40,7 @@ pub fn commit<D: Disk>(
     ensures fewer { length state.new.live ≤ length state.old.live }
     ensures cause { CallCause (D.fault_count disk.old) (D.fault_count disk.new) result.answer }
     ensures counted { D.call_count disk.new ≤ D.call_count disk.old + settling_calls state.old.journal.doubt + 4 }
-    ensures repos { state.new.journal.past.repos ≡ state.old.journal.past.repos }
+    ensures known { known state.new.journal ≡ known state.old.journal }
     ensures moves { IsTrue D.tells → Moves limits.now (state_of state.old) (state_of state.new) (D.view disk.old) (D.view disk.new) }
 {
     // a law, which does nothing
@@ -105,7 +105,7 @@ fn carry_out<D: Disk>(
     ensures fewer { length state.new.live ≤ length state.old.live }
     ensures cause { CallCause (D.fault_count disk.old) (D.fault_count disk.new) result.answer }
     ensures counted { D.call_count disk.new ≤ D.call_count disk.old + 4 }
-    ensures repos { state.new.journal.past.repos ≡ state.old.journal.past.repos }
+    ensures known { known state.new.journal ≡ known state.old.journal }
     ensures moves { IsTrue D.tells → Moves limits.now (state_of state.old) (state_of state.new) (D.view disk.old) (D.view disk.new) }
 {
     match checked {
@@ -136,7 +136,7 @@ fn add_write<D: Disk>(
     ensures fewer { length state.new.live ≤ length state.old.live }
     ensures cause { CallCause (D.fault_count disk.old) (D.fault_count disk.new) (answer_of result) }
     ensures counted { D.call_count disk.new ≤ D.call_count disk.old + 4 }
-    ensures repos { state.new.journal.past.repos ≡ state.old.journal.past.repos }
+    ensures known { known state.new.journal ≡ known state.old.journal }
     ensures moves { IsTrue D.tells → Moves limits.now (state_of state.old) (state_of state.new) (D.view disk.old) (D.view disk.new) }
 {
     let position = entry.position;

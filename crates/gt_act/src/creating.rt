@@ -1,4 +1,4 @@
-ghost use Rattle.gt_journal.specs.Ledger.{front_of};
+ghost use Rattle.gt_journal.specs.Ledger.{front_of, known};
 ghost use Rattle.gt_table.specs.Table as table;
 ghost use Rattle.std.specs.Prelude.{◌≡◌, ◌≤◌, ◌+◌, IsTrue, None, length, true, false};
 ghost use Rattle.gt_model.specs.declared.event.Event.{Event};
@@ -31,7 +31,7 @@ pub fn create<D: Disk>(
     ensures pins { state.new.live ≡ state.old.live }
     ensures cause { CallCause (D.fault_count disk.old) (D.fault_count disk.new) (answer_of result) }
     ensures counted { D.call_count disk.new ≤ D.call_count disk.old + settling_calls state.old.journal.doubt + 4 }
-    ensures repos { state.new.journal.past.repos ≡ state.old.journal.past.repos }
+    ensures known { known state.new.journal ≡ known state.old.journal }
     ensures moves { IsTrue D.tells → Moves limits.now (state_of state.old) (state_of state.new) (D.view disk.old) (D.view disk.new) }
 {
     if let Err(Failed) = state.journal.settle(disk) {
@@ -56,7 +56,7 @@ fn create_settled<D: Disk>(
     ensures counted { D.call_count disk.new ≤ D.call_count disk.old + 4 }
     ensures exists { has_repo (table.content state.old.journal.past) path.now ≡ true → result ≡ End.RepositoryExists }
     ensures full { has_repo (table.content state.old.journal.past) path.now ≡ false → limits.now.positions ≤ front_of state.old.journal → result ≡ End.LogFull }
-    ensures repos { state.new.journal.past.repos ≡ state.old.journal.past.repos }
+    ensures known { known state.new.journal ≡ known state.old.journal }
     ensures moves { IsTrue D.tells → Moves limits.now (state_of state.old) (state_of state.new) (D.view disk.old) (D.view disk.new) }
 {
     if state.journal.table().has_repo(path) {

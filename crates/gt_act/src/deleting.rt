@@ -1,4 +1,4 @@
-ghost use Rattle.gt_journal.specs.Ledger.{front_of};
+ghost use Rattle.gt_journal.specs.Ledger.{front_of, known};
 ghost use Rattle.gt_table.specs.Table as table;
 ghost use Rattle.std.specs.Prelude.{◌≡◌, ◌≤◌, ◌+◌, IsTrue, IfOk, None, Err, true, false, length};
 ghost use Rattle.gt_model.specs.declared.event.Event.{Event};
@@ -35,7 +35,7 @@ pub fn delete<D: Disk>(
     ensures pins { state.new.live ≡ state.old.live }
     ensures cause { CallCause (D.fault_count disk.old) (D.fault_count disk.new) result.answer }
     ensures counted { D.call_count disk.new ≤ D.call_count disk.old + settling_calls state.old.journal.doubt + 4 }
-    ensures repos { state.new.journal.past.repos ≡ state.old.journal.past.repos }
+    ensures known { known state.new.journal ≡ known state.old.journal }
     ensures moves { IsTrue D.tells → Moves limits.now (state_of state.old) (state_of state.new) (D.view disk.old) (D.view disk.new) }
 {
     if let Err(Failed) = state.journal.settle(disk) {
@@ -59,7 +59,7 @@ fn delete_settled<D: Disk>(
     ensures pins { state.new.live ≡ state.old.live }
     ensures cause { CallCause (D.fault_count disk.old) (D.fault_count disk.new) result.answer }
     ensures counted { D.call_count disk.new ≤ D.call_count disk.old + 4 }
-    ensures repos { state.new.journal.past.repos ≡ state.old.journal.past.repos }
+    ensures known { known state.new.journal ≡ known state.old.journal }
     ensures moves { IsTrue D.tells → Moves limits.now (state_of state.old) (state_of state.new) (D.view disk.old) (D.view disk.new) }
 {
     if !state.journal.table().has_repo(path) {
@@ -108,7 +108,7 @@ fn delete_unused<D: Disk>(
     ensures pins { state.new.live ≡ state.old.live }
     ensures cause { CallCause (D.fault_count disk.old) (D.fault_count disk.new) (answer_of result) }
     ensures counted { D.call_count disk.new ≤ D.call_count disk.old + 4 }
-    ensures repos { state.new.journal.past.repos ≡ state.old.journal.past.repos }
+    ensures known { known state.new.journal ≡ known state.old.journal }
     ensures moves { IsTrue D.tells → Moves limits.now (state_of state.old) (state_of state.new) (D.view disk.old) (D.view disk.new) }
 {
     match add_change(alloc, limits, state, disk, path, Change::Delete) {

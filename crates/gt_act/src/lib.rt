@@ -4,6 +4,7 @@
 
 mod aborting;
 mod adding;
+mod applying;
 mod beginning;
 mod committing;
 mod creating;
@@ -15,6 +16,7 @@ mod reading;
 mod reply;
 
 pub use aborting::abort;
+pub use applying::apply;
 pub use beginning::begin;
 pub use committing::commit;
 pub use creating::create;

@@ -20,7 +20,7 @@ use Rattle.gt_ahead.proofs.Asked.{asks_entries, manifest_read}
 use Rattle.gt_ahead.proofs.Parts.{base_parts, parts_of, counted_is, log_in}
 
 -- entries are read from a later one on
-skip : (files : Files) (count : ℕ) (c : Content) (position more : ℕ) (log : List Entry) → run files (entries_in c position more) ≡ Ok log → count ≤ length log → run files (entries_in (after_all c (take count log)) (position + count) (more - count)) ≡ Ok (drop count log)
+pub skip : (files : Files) (count : ℕ) (c : Content) (position more : ℕ) (log : List Entry) → run files (entries_in c position more) ≡ Ok log → count ≤ length log → run files (entries_in (after_all c (take count log)) (position + count) (more - count)) ≡ Ok (drop count log)
 skip files zero c position more log is le = ap₂ (λ (p m : ℕ). run files (entries_in c p m)) (let e : position + 0 ≡ position = omega arith in e) (let e : more - 0 ≡ more = omega arith in e) ∙ is
 skip files (suc count) c position zero log is le = let none : [] ≡ log = cc (is) in absurd (omega (arith, le, ap length none))
 skip files (suc count) c position (suc more) log is le =

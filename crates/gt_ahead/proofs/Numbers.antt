@@ -46,13 +46,13 @@ module _ (P : ℕ → Type 0) where
       (all_append Has (packed_files r.packed) _ (packed_has r.packed rest.0)
       (all_map (λ (l : Loose). P l.file) Has (λ l. loose_file l.file) (λ l p k. p) r.loose (all_mapped P file_of r.loose rest.1)))
 
-  repos_have : (repos : List RepoFiles) → AllByRecursion P (flat_map file_numbers repos) → AllByRecursion Has (flat_map repo_files repos)
+  pub repos_have : (repos : List RepoFiles) → AllByRecursion P (flat_map file_numbers repos) → AllByRecursion Has (flat_map repo_files repos)
   repos_have [] all = tt
   repos_have (r ∷ repos) all =
       let parts = all_front P (file_numbers r) (flat_map file_numbers repos) all in
       all_append Has (repo_files r) (flat_map repo_files repos) (repo_has r parts.0) (repos_have repos parts.1)
 
-  manifest_has : (epoch : ℕ) → AllByRecursion Has (manifest_files epoch)
+  pub manifest_has : (epoch : ℕ) → AllByRecursion Has (manifest_files epoch)
   manifest_has zero = tt
   manifest_has (suc n) = ((λ k. absurd (omega (arith, k))), tt)
 

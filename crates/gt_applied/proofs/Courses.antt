@@ -40,7 +40,7 @@ course o (e ∷ es) = course (stepped o e.change) es
 abbrev pub at_path : List ℕ → List Entry → List Entry
 at_path path entries = filter (λ e. same_name e.path path) entries
 
-get-changed : (c : Content) (path : List ℕ) (change : Change) (q : List ℕ) → is_built change ≡ true → map.get (changed c path change) q ≡ cond (eq_by_cmp key_cmp q path) (stepped (map.get c q) change) (map.get c q)
+pub get-changed : (c : Content) (path : List ℕ) (change : Change) (q : List ℕ) → is_built change ≡ true → map.get (changed c path change) q ≡ cond (eq_by_cmp key_cmp q path) (stepped (map.get c q) change) (map.get c q)
 unfolding changed
 get-changed c path (Create pool) q b = get-insert nat_list_cmp_total c path (new_repo pool) q
 get-changed c path Delete q b = get-remove nat_list_cmp_total c path q
@@ -89,7 +89,7 @@ pub legal-append : (o : Option Repo) (one two : List Entry) → Legal o (one ++ 
 legal-append o [] two legal = (tt, legal)
 legal-append o (e ∷ one) two legal = let rest = legal-append (stepped o e.change) one two legal.1 in ((legal.0, rest.0), rest.1)
 
-none_there : {A : Type 0} (o : Option A) → not (is_some o) ≡ true → o ≡ None
+pub none_there : {A : Type 0} (o : Option A) → not (is_some o) ≡ true → o ≡ None
 none_there None h = refl
 none_there (Some a) h = absurd (cc h)
 

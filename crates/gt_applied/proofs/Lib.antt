@@ -8,3 +8,6 @@ pub mod Filing
 pub mod Segments
 pub mod Paths
 pub mod Applications
+mod Listed
+mod Pools
+mod Few

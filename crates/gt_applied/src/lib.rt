@@ -3,4 +3,7 @@
 
 mod laws;
 
-pub use laws::applications_hold_the_content;
+pub use laws::{
+    applications_hold_the_content, bases_list_their_repositories, built_entries_keep_good_pools,
+    few_entries_add_few_files,
+};

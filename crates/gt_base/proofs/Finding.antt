@@ -1,5 +1,5 @@
 -- What is found under a path in a base, and under a name in a pack of it.
-use Rattle.std.proofs.Common.{◌≡◌, ℕ, ◌+◌, Bool, true, false, cond, List, [], ◌∷◌, map as map_list, Option, Some, None, refl, sym, ap, ◌∙◌, slice_range}
+use Rattle.std.proofs.Common.{◌≡◌, ℕ, ◌+◌, Bool, true, false, cond, List, [], ◌∷◌, map as map_list, Some, refl, sym, ap, ◌∙◌, slice_range}
 use Rattle.std.specs.Prelude.{bytes_eq}
 use Rattle.std.proofs.lemmas.Map.Lookups.{exact_bytes}
 use Rattle.std.proofs.lemmas.Map.Text.{is_eq-slice_cmp}

@@ -3,5 +3,6 @@ pub mod OneRepo
 pub mod Finding
 pub mod Contents
 pub mod Packed
+mod Headings
 mod Switches
 mod SwitchImages

@@ -1,18 +1,15 @@
 -- What the packs of a base have under a name stands at its place in one of them, and it is a good record.
-use Rattle.std.proofs.Common.{◌≡◌, ℕ, zero, suc, ◌+◌, Bool, true, false, cond, ltb, eqb, List, [], ◌∷◌, ◌++◌, length, take, drop, fold, Option, Some, None, Result, Ok, Err, refl, sym, ap, subst, ◌∙◌, slice_range}
-use Rattle.std.proofs.Common.{map as map_list}
+use Rattle.std.proofs.Common.{◌≡◌, ℕ, zero, suc, ◌+◌, Bool, true, false, cond, ltb, eqb, List, [], ◌∷◌, ◌++◌, length, drop, fold, Option, Some, None, Result, Ok, Err, refl, sym, ap, subst, ◌∙◌, slice_range}
 use Rattle.std.specs.Prelude.{bytes_eq}
 use Rattle.std.specs.List.{AllByRecursion}
 use Rattle.std.specs.Option.{option_map, option_or, is_none}
 use Rattle.std.specs.Ordering.{eq_by_cmp}
 use Rattle.std.specs.Int.{w32}
-use Rattle.std.specs.Cmp.Lexicographic.{nat_list_cmp_total}
 use Rattle.std.specs.FinMap as map
-use Rattle.std.specs.FinMap.{find, get-empty, get-from_entries}
+use Rattle.std.specs.FinMap.{get-empty}
 use Rattle.gt_bytes.specs.Reading.{◌>>=◌, number_at, many_at, pair_at, counted_at}
 use Rattle.gt_bytes.proofs.Steps.{bind_ok, kept_ok, ok_is}
-use Rattle.gt_disk.specs.Files.{States, still}
-use Rattle.gt_disk.specs.Kinds.{pack_file}
+use Rattle.gt_disk.specs.Files.{States}
 use Rattle.gt_object.specs.declared.error.ObjectError.{ObjectError}
 use Rattle.gt_object.specs.Whole.{why_not}
 use Rattle.gt_model.specs.Contents.{key_cmp, Names, Repo, and_then, union, own}
@@ -22,7 +19,7 @@ use Rattle.gt_pack.specs.declared.placed.Placed.{Placed}
 use Rattle.gt_pack.specs.Index.{find_in}
 use Rattle.gt_pack.specs.Reading.{magic_at, is_record, last_name, name_above, record_at, to_placed, placed_at, items_at, tail_at, pack_of}
 use Rattle.gt_base.specs.declared.held.BaseRepo.{BaseRepo}
-use Rattle.gt_base.specs.Held.{places_or_none, items_of, named_record, records_of, own_of, to_place, place_in, place_of, repo_of, repo_at, content_of, places_of, HoldsPack, HoldsPacks, StandsStill}
+use Rattle.gt_base.specs.Held.{places_or_none, items_of, records_of, to_place, place_of, repo_of, repo_at, content_of, places_of, HoldsPack, HoldsPacks, StandsStill}
 use Rattle.gt_base.specs.Packs.{PackFile}
 use Rattle.gt_base.proofs.Finding.{get-content_of, cut, record_in}
 

@@ -11,7 +11,7 @@ ghost use Rattle.gt_manifest.specs.declared.version.Version.TheVariants.{Second}
 ghost use Rattle.gt_model.specs.declared.limits.Limits.{Limits};
 ghost use Rattle.gt_reading.specs.Reading.{run};
 ghost use Rattle.gt_base.specs.Answers.{Reads, HasCause};
-ghost use Rattle.gt_base.specs.Loading.{limited, turn_then, as_based};
+ghost use Rattle.gt_base.specs.Loading.{limited, turn_then, as_based, next_in, headings, manifest_headings};
 ghost use Rattle.gt_base.specs.Recovery.{Based, base_in};
 ghost use Rattle.gt_base.specs.Switching.{Counts, Turns, SwitchMoment, AfterSwitch, AfterSettle, MaySwitch, SwitchImages, ImagesAfterSwitch, switched, settled, HasSwitchCause};
 
@@ -56,6 +56,16 @@ impl Base {
         self.doubt.is_some()
     }
 
+    /// The next free file number: that of the manifest in doubt, or else of the one that counts.
+    pub fn next(&self) -> u64
+        ensures { result ≡ next_in self.now }
+    {
+        match &self.doubt {
+            None => self.manifest.next,
+            Some(to) => to.next,
+        }
+    }
+
     /// Makes turn last, and reads the base that the disk's files have: the manifest of the epoch that turn counts, and of each
     /// repository its packs, its packed file and its loose files. `gate` is how many entries are in the log.
     ///
@@ -71,6 +81,11 @@ impl Base {
         ensures answer { IsTrue D.tells → Reads (run (D.view disk.old).reads (turn_then limits.now gate)) (as_based result) }
         ensures within { IfOk result (λ x. x.0.manifest.applied ≤ gate) }
         ensures few { IfOk result (λ x. x.0.manifest.epoch ≤ limits.now.epochs) }
+        ensures settled { IfOk result (λ x. x.0.doubt ≡ None) }
+        // The manifest may be written.
+        ensures fits { IfOk result (λ x. Fits Second x.0.manifest) }
+        // What was read is of the repositories that the manifest lists, in order, each with its pool.
+        ensures headings { IfOk result (λ x. headings x.1 ≡ manifest_headings x.0.manifest.repos) }
         ensures cause { HasCause (D.fault_count disk.old) (D.fault_count disk.new) result }
         ensures later { (D.view disk.old).clock ≤ (D.view disk.new).clock }
         ensures reads { IsTrue D.tells → (D.view disk.new).reads ≡ (D.view disk.old).reads }
@@ -191,6 +206,9 @@ fn read_limited<D: Disk>(
     ensures cause { HasCause (D.fault_count disk.old) (D.fault_count disk.new) result }
     ensures within { IfOk result (λ x. x.0.manifest.applied ≤ gate) }
     ensures few { IfOk result (λ x. x.0.manifest.epoch ≤ limits.now.epochs) }
+    ensures settled { IfOk result (λ x. x.0.doubt ≡ None) }
+    ensures fits { IfOk result (λ x. Fits Second x.0.manifest) }
+    ensures headings { IfOk result (λ x. headings x.1 ≡ manifest_headings x.0.manifest.repos) }
     ensures answer { IsTrue D.tells → Reads (run (D.view disk.old).reads (limited limits.now gate epoch)) (as_based result) }
 {
     if limits.epochs < epoch {
@@ -214,6 +232,9 @@ fn read_base<D: Disk>(
     ensures cause { HasCause (D.fault_count disk.old) (D.fault_count disk.new) result }
     ensures within { IfOk result (λ x. x.0.manifest.applied ≤ gate) }
     ensures epoch { IfOk result (λ x. x.0.manifest.epoch ≡ epoch) }
+    ensures settled { IfOk result (λ x. x.0.doubt ≡ None) }
+    ensures fits { IfOk result (λ x. Fits Second x.0.manifest) }
+    ensures headings { IfOk result (λ x. headings x.1 ≡ manifest_headings x.0.manifest.repos) }
     ensures answer { IsTrue D.tells → Reads (run (D.view disk.old).reads (base_in epoch gate)) (as_based result) }
 {
     let manifest = read_manifest(alloc, disk, epoch, gate)?;

@@ -3,7 +3,8 @@ ghost use Rattle.std.specs.Prelude.{◌≡◌, ◌≢◌, ◌≤◌, Ok, IsTrue,
 ghost use Rattle.gt_disk.specs.Files.{Quiet};
 ghost use Rattle.gt_disk.specs.Kinds as kinds;
 ghost use Rattle.gt_log.specs.declared.mount_cause.MountCause.{MountCause};
-ghost use Rattle.gt_manifest.specs.Whole.{manifest_of};
+ghost use Rattle.gt_manifest.specs.Whole.{manifest_of, Fits};
+ghost use Rattle.gt_manifest.specs.declared.version.Version.TheVariants.{Second};
 ghost use Rattle.gt_reading.specs.Reading.{run, file_in};
 ghost use Rattle.gt_reftext.specs.Packed.{packed_of};
 ghost use Rattle.gt_base.specs.Answers.{Finds, Reads, HasCause};
@@ -121,6 +122,7 @@ fn read_manifest_file<D: Disk>(
     ensures cause { HasCause (D.fault_count disk.old) (D.fault_count disk.new) result }
     ensures epoch { IfOk result (λ m. m.epoch ≡ epoch) }
     ensures within { IfOk result (λ m. m.applied ≤ gate) }
+    ensures fits { IfOk result (Fits Second) }
     ensures answer { IsTrue D.tells → Reads (run (D.view disk.old).reads (file_in (kinds.manifest_file epoch) (λ bytes. checked epoch gate (manifest_of bytes)))) result }
 {
     let file = manifest_file(epoch);
@@ -164,6 +166,7 @@ pub(crate) fn read_manifest<D: Disk>(
     ensures cause { HasCause (D.fault_count disk.old) (D.fault_count disk.new) result }
     ensures epoch { IfOk result (λ m. m.epoch ≡ epoch) }
     ensures within { IfOk result (λ m. m.applied ≤ gate) }
+    ensures fits { IfOk result (Fits Second) }
     ensures answer { IsTrue D.tells → Reads (run (D.view disk.old).reads (manifest_in epoch gate)) result }
 {
     if epoch == 0 {

@@ -1,9 +1,10 @@
 // Lists of files, and repositories.
-ghost use Rattle.std.specs.Prelude.{◌≡◌, ◌≤◌, IsTrue, IfOk, OnErr, Err};
+ghost use Rattle.std.specs.Prelude.{◌≡◌, ◌≤◌, IsTrue, [], ◌∷◌, IfOk, OnErr, Err};
 ghost use Rattle.gt_log.specs.declared.mount_cause.MountCause.TheVariants.{Memory};
 ghost use Rattle.gt_disk.specs.Files.{Quiet};
 ghost use Rattle.gt_reading.specs.Reading.{run, list_in};
 ghost use Rattle.gt_base.specs.Answers.{Reads, HasCause};
+ghost use Rattle.gt_base.specs.Loading.{headings, manifest_headings};
 ghost use Rattle.gt_base.specs.Recovery.{pack_in, loose_in, repo_in};
 
 use crate::reading::{read_loose_ref, read_packed_refs};
@@ -114,6 +115,7 @@ fn read_repo<D: Disk>(
     ensures later { (D.view disk.old).clock ≤ (D.view disk.new).clock }
     ensures cause { HasCause (D.fault_count disk.old) (D.fault_count disk.new) result }
     ensures answer { IsTrue D.tells → Reads (run (D.view disk.old).reads (repo_in files.now)) result }
+    ensures heading { IfOk result (λ repo. headings (repo ∷ []) ≡ manifest_headings (files.now ∷ [])) }
 {
     let packs = read_packs(alloc, disk, files.packs.as_slice())?;
     let packed = read_packed_refs(alloc, disk, files.packed)?;
@@ -131,6 +133,7 @@ pub(crate) fn read_repos<D: Disk>(
     ensures later { (D.view disk.old).clock ≤ (D.view disk.new).clock }
     ensures cause { HasCause (D.fault_count disk.old) (D.fault_count disk.new) result }
     ensures answer { IsTrue D.tells → Reads (run (D.view disk.old).reads (list_in repo_in all.now)) result }
+    ensures headings { IfOk result (λ repos. headings repos ≡ manifest_headings all.now) }
 {
     let mut repos = ListOf::new(alloc);
     'repos: for files in all {

@@ -1,15 +1,13 @@
 -- What an image recovers to, of a base and a log past it.
-use Rattle.std.proofs.Common.{◌≡◌, ℕ, zero, suc, ◌+◌, ◌-◌, ◌≤◌, ◌==◌, not, ◌&&◌, nat_lt, nat_eq, Bool, true, false, cond, List, [], ◌∷◌, ◌++◌, length, Some, Result, Ok, Err, refl, sym, ◌∙◌, ap, ap₂, subst, arith}
+use Rattle.std.proofs.Common.{◌≡◌, ℕ, zero, suc, ◌+◌, ◌-◌, ◌≤◌, ◌==◌, not, nat_lt, Bool, true, false, cond, List, [], ◌∷◌, ◌++◌, length, Result, Ok, Err, refl, sym, ◌∙◌, ap, subst, arith}
 use Rattle.std.proofs.lemmas.Bool.Decides.{nat_tests}
 use Rattle.std.proofs.lemmas.List.{append-nil}
-use Rattle.std.specs.List.{AllByRecursion}
 use Rattle.gt_disk.specs.declared.file_id.FileId.{FileId}
-use Rattle.gt_disk.specs.Files.{Content as FileContent, FileState, Leaves, Files, States, IsImage}
+use Rattle.gt_disk.specs.Files.{Content as FileContent, Files, States, IsImage}
 use Rattle.gt_disk.specs.Kinds.{gate_file, turn_file, manifest_file, pack_file, packed_file, loose_file, entry_file}
 use Rattle.gt_log.specs.Log.{content_length}
 use Rattle.gt_log.specs.declared.mount_cause.MountCause.{MountCause}
 use Rattle.gt_log.specs.declared.mount_cause.MountCause.TheVariants.{DeviceFault, Damaged, Memory}
-use Rattle.gt_manifest.specs.declared.manifest.Loose.{Loose}
 use Rattle.gt_manifest.specs.declared.manifest.RepoFiles.{RepoFiles}
 use Rattle.gt_manifest.specs.declared.manifest.Manifest.{Manifest}
 use Rattle.gt_manifest.specs.Whole.{manifest_of}
@@ -19,7 +17,7 @@ use Rattle.gt_model.specs.Contents.{Content, after}
 use Rattle.gt_model.specs.Machine.{Recovered}
 use Rattle.gt_pack.specs.Reading.{pack_of}
 use Rattle.gt_reading.specs.Reading.{Damage, Reading, done, damaged, run, asked, ◌>>=◌, AsksOnly, parsed, parsed_file, file_in, list_in, one_more}
-use Rattle.gt_reading.specs.Frames.{AreStill, Well, GoesWell}
+use Rattle.gt_reading.specs.Frames.{AreStill}
 use Rattle.gt_reading.proofs.Apart.{well_apart}
 use Rattle.gt_reading.proofs.Programs.{run_then, run_damaged, asked_then, split, only_then, only_file, only_each, asks_file, gives_file}
 use Rattle.gt_reftext.specs.Loose.{value_of}
@@ -28,9 +26,8 @@ use Rattle.gt_base.specs.Answers.{Blames}
 use Rattle.gt_base.specs.Held.{content_of}
 use Rattle.gt_base.specs.Loading.{turn_then}
 use Rattle.gt_base.specs.Entries.{entry_of as entry_at, entry_in, entries_in}
-use Rattle.gt_base.specs.Recovery.{Based, Loaded, pack_as, pack_in, listed, packed_in, with_name, loose_in, repo_in, first_manifest, checked, manifest_in, based_on, base_in, log_on, counted, recovery, recover, all_recovered, recovered, data_files, Keeps}
-use Rattle.gt_base.specs.declared.held.BaseRepo.{BaseRepo}
-use Rattle.gt_journal.specs.Ledger.{HasBase}
+use Rattle.gt_base.specs.Recovery.{Based, Loaded, pack_as, pack_in, listed, packed_in, with_name, loose_in, repo_in, first_manifest, checked, manifest_in, based_on, base_in, log_on, counted, recovery, recover, all_recovered, recovered, Keeps}
+use Rattle.gt_journal.specs.Ledger.{HasBase, is_based}
 
 -- ---- which files recovery asks for
 
@@ -48,7 +45,7 @@ module _ (P : FileId → Type 0) (manifests : (n : ℕ) → P (manifest_file n))
       only_then P (packed_in r.packed) _ (only_packed r.packed) (λ list.
       only_then P (list_in loose_in r.loose) _ (only_list P loose_in (λ l. only_file P (loose_file l.file) (λ bytes. with_name l.name (value_of bytes)) (loose l.file)) r.loose) (λ values. tt)))
 
-  only_manifest : (epoch gate : ℕ) → AsksOnly P (manifest_in epoch gate)
+  pub only_manifest : (epoch gate : ℕ) → AsksOnly P (manifest_in epoch gate)
   only_manifest zero gate = tt
   only_manifest (suc n) gate = only_file P (manifest_file (suc n)) (λ bytes. checked (suc n) gate (manifest_of bytes)) (manifests (suc n))
 
@@ -79,10 +76,6 @@ module _ (P : FileId → Type 0) (manifests : (n : ℕ) → P (manifest_file n))
         (only_if (nat_lt limits.epochs epoch) (turn_file, limits.epochs) _
         (only_then P (base_in epoch gate) (log_on gate) (only_base epoch gate) (λ b.
         only_then P (entries_in (content_of b.repos) (b.manifest.applied + 1) (gate - b.manifest.applied)) _ (only_entries (content_of b.repos) (b.manifest.applied + 1) (gate - b.manifest.applied)) (λ log. tt))))
-
--- files but those of the log
-abbrev pub is_based : FileId → Bool
-is_based f = not (nat_eq f.kind 1) && not (nat_eq f.kind 4)
 
 abbrev IsBasedFile : FileId → Type 0
 IsBasedFile f = is_based f ≡ true
@@ -116,7 +109,7 @@ pub record AnyGate (files : Files) (epoch gate other : ℕ) (m : Manifest) : Typ
 file_asks : (files : Files) (f : FileId) (one two : List ℕ → Result Manifest ℕ) → asked files (file_in f one) ≡ asked files (file_in f two)
 file_asks files f one two = asks_file f one files ∙ sym (asks_file f two files)
 
-manifest_any : (files : Files) (epoch gate other : ℕ) (m : Manifest) → run files (manifest_in epoch gate) ≡ Ok m → m.applied ≤ other → AnyGate files epoch gate other m
+pub manifest_any : (files : Files) (epoch gate other : ℕ) (m : Manifest) → run files (manifest_in epoch gate) ≡ Ok m → m.applied ≤ other → AnyGate files epoch gate other m
 manifest_any files zero gate other m is le =
     let same : first_manifest ≡ m = cc (is) in
     record { is = is; asks = refl; epoch_is = sym (ap (λ (y : Manifest). y.epoch) same); within = omega (arith, ap (λ (y : Manifest). y.applied) same) }
@@ -278,7 +271,7 @@ recovers_blamed limits files DeviceFault is = tt
 recovers_blamed limits files Memory is = tt
 recovers_blamed limits files (Damaged file at) is = ap all_recovered is
 
-both_still : (states : States) (one two : List FileId) → AreStill states one → AreStill states two → AreStill states (one ++ two)
+pub both_still : (states : States) (one two : List FileId) → AreStill states one → AreStill states two → AreStill states (one ++ two)
 both_still states [] two a b = b
 both_still states (f ∷ fs) two a b = (a.0, both_still states fs two a.1 b)
 
@@ -286,42 +279,42 @@ pub front_still : (states : States) (one two : List FileId) → AreStill states 
 front_still states [] two a = (tt, a)
 front_still states (f ∷ fs) two a = let r = front_still states fs two a.1 in ((a.0, r.0), r.1)
 
--- ---- a state whose files have a base
+-- ---- files that have a base
 
 -- what leaves all files but the log's leaves the base
-pub base_kept : (limits : Limits) (g : Recovered) (before states : States) → ((f : FileId) → is_based f ≡ true → states f ≡ before f) → HasBase limits g before → HasBase limits g states
-base_kept limits g before states same has = record {
-  turn = has.turn;
-  turn_still = same turn_file refl ∙ has.turn_still;
-  turn_length = has.turn_length;
+pub base_kept : (limits : Limits) (epoch applied next : ℕ) (c : Content) (before states : States) → ((f : FileId) → is_based f ≡ true → states f ≡ before f) → HasBase limits epoch applied next c before → HasBase limits epoch applied next c states
+base_kept limits epoch applied next c before states same has = record {
   few = has.few;
   based = has.based;
-  reads = λ gate le. well_apart is_based before states same (base_in g.epoch gate) (λ b. b ≡ has.based) (only_base IsBasedFile (λ n. refl) (λ n. refl) (λ n. refl) (λ n. refl) g.epoch gate) (has.reads gate le);
-  epoch = has.epoch;
-  applied = has.applied;
-  next = has.next;
+  reads = λ gate le. well_apart is_based before states same (base_in epoch gate) (λ b. b ≡ has.based) (only_base IsBasedFile (λ n. refl) (λ n. refl) (λ n. refl) (λ n. refl) epoch gate) (has.reads gate le);
+  epoch_is = has.epoch_is;
+  applied_is = has.applied_is;
+  next_is = has.next_is;
   content = has.content;
 }
 
--- An image whose gate counts a log past the base recovers to both, by files that are still.
-pub gives_log : (limits : Limits) (g : Recovered) (states : States) (image : Files) → HasBase limits g states → IsImage states image → content_length (image gate_file) ≡ g.applied + length g.log → g.applied + length g.log ≤ limits.positions
-    → run image (entries_in g.base (g.applied + 1) (length g.log)) ≡ Ok g.log → AreStill states (asked image (entries_in g.base (g.applied + 1) (length g.log)))
-    → (recover limits image ≡ Ok g) × Keeps limits image states
-gives_log limits g states image has is count within log_is log_still =
+-- what is recovered of a base and a log past it
+abbrev pub with_log : ℕ → ℕ → ℕ → Content → List Entry → Recovered
+with_log epoch applied next c log = record { epoch = epoch; applied = applied; next = next; base = c; log = log }
+
+-- An image whose turn counts the epoch and whose gate counts a log past the base recovers to both, by files that are still.
+pub gives_log : (limits : Limits) (epoch applied next : ℕ) (c : Content) (log : List Entry) (states : States) (image : Files) → HasBase limits epoch applied next c states → IsImage states image
+    → content_length (image turn_file) ≡ epoch → content_length (image gate_file) ≡ applied + length log → applied + length log ≤ limits.positions
+    → run image (entries_in c (applied + 1) (length log)) ≡ Ok log → AreStill states (asked image (entries_in c (applied + 1) (length log)))
+    → (recover limits image ≡ Ok (with_log epoch applied next c log)) × Keeps limits image states
+gives_log limits epoch applied next c log states image has is epoch_is count within log_is log_still =
     let gate : ℕ = content_length (image gate_file) in
-    let turn_is : image turn_file ≡ has.turn = subst (λ (s : FileState). Leaves s (image turn_file)) has.turn_still (is turn_file) in
-    let epoch_is : content_length (image turn_file) ≡ g.epoch = ap content_length turn_is ∙ has.turn_length in
     let well = has.reads gate (omega (arith, count)) image is in
-    let base_is : run image (base_in g.epoch gate) ≡ Ok has.based = well.is ∙ ap Ok well.has in
-    let left : gate - has.based.manifest.applied ≡ length g.log = omega (arith, count, has.applied) in
-    let entries : run image (entries_in (content_of has.based.repos) (has.based.manifest.applied + 1) (gate - has.based.manifest.applied)) ≡ Ok g.log =
-    (λ i. run image (entries_in (has.content i) (has.applied i + 1) (left i))) ∙ log_is in
-    let x : Loaded = record { base = has.based; log = g.log } in
-    let here : run image (counted limits g.epoch gate) ≡ Ok x = counted_is limits image g.epoch gate has.based g.log (omega (arith, count, within)) has.few base_is entries in
+    let base_is : run image (base_in epoch gate) ≡ Ok has.based = well.is ∙ ap Ok well.has in
+    let left : gate - has.based.manifest.applied ≡ length log = omega (arith, count, has.applied_is) in
+    let entries : run image (entries_in (content_of has.based.repos) (has.based.manifest.applied + 1) (gate - has.based.manifest.applied)) ≡ Ok log =
+    (λ i. run image (entries_in (has.content i) (has.applied_is i + 1) (left i))) ∙ log_is in
+    let x : Loaded = record { base = has.based; log = log } in
+    let here : run image (counted limits epoch gate) ≡ Ok x = counted_is limits image epoch gate has.based log (omega (arith, count, within)) has.few base_is entries in
     let whole : run image (recovery limits) ≡ Ok x = ap (λ (n : ℕ). run image (counted limits n gate)) epoch_is ∙ here in
-    let p = parts_of limits image g.epoch gate x here in (
-      loaded_recovers limits image x whole ∙ ap Ok (λ i. record { epoch = has.epoch i; applied = has.applied i; next = has.next i; base = has.content i; log = g.log }),
+    let p = parts_of limits image epoch gate x here in (
+      loaded_recovers limits image x whole ∙ ap Ok (λ i. record { epoch = has.epoch_is i; applied = has.applied_is i; next = has.next_is i; base = has.content i; log = log }),
       subst (λ (n : ℕ). AreStill states (asked image (counted limits n gate))) (sym epoch_is)
-          (subst (AreStill states) (sym p.asks) (both_still states (asked image (base_in g.epoch gate)) _ well.steady
-          (subst (AreStill states) (sym (λ i. asked image (entries_in (has.content i) (has.applied i + 1) (left i)))) log_still))),
+          (subst (AreStill states) (sym p.asks) (both_still states (asked image (base_in epoch gate)) _ well.steady
+          (subst (AreStill states) (sym (λ i. asked image (entries_in (has.content i) (has.applied_is i + 1) (left i)))) log_still))),
     )

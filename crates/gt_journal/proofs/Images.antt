@@ -1,22 +1,28 @@
 -- What the images of a log's files give of the machine's state.
-use Rattle.std.proofs.Common.{◌≡◌, ◌⊎◌, inl, inr, ⊎_elim, ℕ, ◌+◌, ◌-◌, ◌≤◌, List, [], ◌∷◌, ◌++◌, length, map, take, drop, Option, Some, None, Ok, refl, sym, ◌∙◌, ap, subst, arith, length-append}
-use Rattle.std.proofs.lemmas.List.{length-map}
+use Rattle.std.proofs.Common.{◌≡◌, ◌⊎◌, inl, inr, ⊎_elim, true, ℕ, ◌+◌, ◌-◌, ◌≤◌, List, [], ◌∷◌, ◌++◌, length, map, take, drop, Option, Some, None, Ok, refl, sym, ◌∙◌, ap, subst, arith, length-append, append-nil}
+use Rattle.std.proofs.lemmas.List.{length-map, length-drop, take-append-le}
+use Rattle.gt_disk.specs.declared.file_id.FileId.{FileId}
 use Rattle.gt_disk.specs.Files.{Files, States, IsImage}
 use Rattle.gt_disk.specs.Kinds.{gate_file, turn_file}
-use Rattle.gt_log.specs.Log.{Recovers, KeepsEntries, Stands, Doubts, Adding}
-use Rattle.gt_log.proofs.Images.{stands_recovers, doubts_recovers}
+use Rattle.gt_log.specs.Log.{content_length, Recovers, KeepsEntries, Stands, Doubts, Adding}
+use Rattle.gt_log.proofs.Images.{image_still, stands_recovers, doubts_recovers}
 use Rattle.gt_model.specs.declared.entry.Entry.{Entry}
 use Rattle.gt_model.specs.declared.limits.Limits.{Limits}
 use Rattle.gt_model.specs.Contents.{Content, IsLegal, after_all}
-use Rattle.gt_model.specs.Machine.{State, Recovered, Applying, with_doubt, recovered_of, MayRecover}
+use Rattle.gt_model.specs.Machine as machine
+use Rattle.gt_model.specs.Machine.{State, Recovered, Applying, with_doubt, line, content_at, turned, turned_by, recovered_of, SettledEntry, SettledTurn, MayRecover}
 use Rattle.gt_history.specs.Crash.{IsSteady, AreSteady}
+use Rattle.gt_ahead.proofs.MovedOn.{skip}
+use Rattle.gt_base.specs.Entries.{entries_in}
 use Rattle.gt_base.specs.Spelling.{encode}
 use Rattle.gt_base.specs.Held.{content_of}
-use Rattle.gt_base.specs.Recovery.{Loaded, recover, recovered, Keeps, counters}
-use Rattle.gt_journal.specs.Ledger.{IsKept, FilesHave, HasBase, StoredBy, ground_of, Stored}
+use Rattle.gt_base.specs.Recovery.{recover, Keeps, counters}
+use Rattle.gt_reading.specs.Counting.{IsCounting, IsTurning}
+use Rattle.gt_reading.specs.Reading.{run}
+use Rattle.gt_journal.specs.Ledger.{IsKept, FilesHave, HasBase, HasApplied, HasTurn, AreApplied, Stored, is_based}
 use Rattle.gt_journal.specs.Histories.{Gives, GivesThis}
 use Rattle.gt_journal.proofs.Recovering.{entries_read, log_back, log_still, kept_front, map_last, KeepsFiles, keeps, keeps_front}
-use Rattle.gt_journal.proofs.Based.{gives_log, parts_of, recovers_loaded}
+use Rattle.gt_journal.proofs.Based.{base_kept, gives_log, with_log, parts_of, recovers_loaded}
 use Rattle.gt_journal.proofs.Steady.{stands_steady, doubts_steady}
 
 -- each entry of what recovers fits
@@ -27,95 +33,171 @@ recovered_legal limits files r is =
     let p = parts_of limits files _ _ x l.1 in
     subst (λ (y : Recovered). IsLegal y.base (y.applied + 1) y.log) l.2 (log_back files (content_of x.base.repos) (x.base.manifest.applied + 1) _ x.log p.log).legal.0
 
--- ---- images of a base and a log
+-- ---- a log that goes on
 
-abbrev pub with_log : Recovered → List Entry → Recovered
-with_log g log = record g { log = log }
+-- the same state with a longer log
+abbrev pub with_more : State → List Entry → State
+with_more s more = record s { log = s.log ++ more }
+
+content_more : (s : State) (more : List Entry) (position : ℕ) → position ≤ machine.front s → content_at (with_more s more) position ≡ content_at s position
+content_more s more position le = ap (after_all s.base) (take-append-le (position - s.begin) s.log more (omega (arith, le)))
+
+pub applied_more : (limits : Limits) (s : State) (more : List Entry) (states : States) → s.applied ≤ machine.front s → HasApplied limits s states → HasApplied limits (with_more s more) states
+applied_more limits s more states le has = subst (λ (c : Content). HasBase limits s.epoch s.applied s.manifest_next c states) (sym (content_more s more s.applied le)) has
+
+pub turn_more : (limits : Limits) (s : State) (more : List Entry) (turning : Option Applying) (states : States) → machine.IsTurningIn s.applied (machine.front s) s.next turning → HasTurn limits s.epoch (content_at s) turning states → HasTurn limits s.epoch (content_at (with_more s more)) turning states
+turn_more limits s more None states order has = has
+turn_more limits s more (Some a) states order has = (has.0, subst (λ (c : Content). HasBase limits (s.epoch + 1) a.position a.next c states) (sym (content_more s more a.position order.1)) has.1)
+
+turning_more : (applied low high next : ℕ) (turning : Option Applying) → low ≤ high → machine.IsTurningIn applied low next turning → machine.IsTurningIn applied high next turning
+turning_more applied low high next None le order = tt
+turning_more applied low high next (Some a) le order = (order.0, omega (arith, order.1, le), order.2)
+
+pub order_more : (s : State) (more : List Entry) → AreApplied s → AreApplied (with_more s more)
+order_more s more order =
+    let longer : machine.front s ≤ machine.front (with_more s more) = omega (arith, length-append s.log more) in
+    record { from = order.from; to = omega (arith, order.to, longer); turn = turning_more s.applied (machine.front s) (machine.front (with_more s more)) s.next s.turning longer order.turn }
+
+-- ---- images of a base and a log
 
 -- An image recovers to this, by files that are still.
 abbrev pub GivesLog : Limits → Recovered → States → Files → Type 0
 GivesLog limits g states image = (recover limits image ≡ Ok g) × Keeps limits image states
 
-module _ (limits : Limits) (g : Recovered) (states : States) (has : HasBase limits g states) (image : Files) (is : IsImage states image) where
-  abbrev first : ℕ
-  first = g.applied + 1
+-- the files of the rest of a log
+keeps_rest : (first count : ℕ) (log : List Entry) (states : States) → count ≤ length log → KeepsFiles first log states → KeepsFiles (first + count) (drop count log) states
+keeps_rest first count log states le still k lt =
+    let here = still (k + count) (omega (arith, lt, le, length-drop count log)) in
+    (here.0, ap (λ (n : ℕ). states (record { kind = 4; number = n })) (let e : k + (first + count) ≡ k + count + first = omega arith in e) ∙ here.1)
 
-  -- the base is that of another log too
-  has_with : (log : List Entry) → HasBase limits (with_log g log) states
-  has_with log = record { turn = has.turn; turn_still = has.turn_still; turn_length = has.turn_length; few = has.few; based = has.based; reads = has.reads; epoch = has.epoch; applied = has.applied; next = has.next; content = has.content }
+module _
+    (limits : Limits) (s : State) (order : AreApplied s) (states : States) (image : Files) (is : IsImage states image) (log : List Entry) (more : List Entry) (whole : log ≡ s.log ++ more) (r : Recovers (s.begin + 1) image (map encode log))
+    (still : KeepsFiles (s.begin + 1) log states) (kept : IsKept s.base (s.begin + 1) log) (within : s.begin + length log ≤ limits.positions) where
+  -- nothing is in doubt, and the log is this one
+  abbrev there : State
+  there = record s { log = log; doubt = None }
 
-  log_image : (log : List Entry) → Recovers first image (map encode log) → KeepsFiles first log states → IsKept g.base first log → g.applied + length log ≤ limits.positions → GivesLog limits (with_log g log) states image
-  log_image log r still kept within =
-      let read = entries_read image g.base first log r kept in
-      gives_log limits (with_log g log) states image (has_with log) is (omega (arith, r.count, length-map log encode)) within read (log_still image states g.base first (length log) log read still)
+  long : length s.log ≤ length log
+  long = omega (arith, ap (λ (l : List Entry). length l) whole, length-append s.log more)
 
-  pub stands_image : (log : List Entry) → Stands first (map encode log) states → IsKept g.base first log → g.applied + length log ≤ limits.positions → GivesLog limits (with_log g log) states image
-  stands_image log stands kept within = log_image log (stands_recovers first (map encode log) states stands image is) (keeps first log states stands.each) kept within
+  -- a base at a position of the log, and the rest past it
+  base_image : (epoch applied next : ℕ) → s.begin ≤ applied → applied ≤ machine.front s → HasBase limits epoch applied next (content_at s applied) states → content_length (image turn_file) ≡ epoch
+      → GivesLog limits (with_log epoch applied next (content_at there applied) (drop (applied - s.begin) log)) states image
+  base_image epoch applied next from to has turn_is =
+      let count : ℕ = applied - s.begin in
+      let some : count ≤ length log = omega (arith, to, long) in
+      let same : content_at there applied ≡ content_at s applied = ap (λ (l : List Entry). after_all s.base (take count l)) whole ∙ content_more s more applied to in
+      let here = subst (λ (c : Content). HasBase limits epoch applied next c states) (sym same) has in
+      let read = skip image count s.base (s.begin + 1) (length log) log (entries_read image s.base (s.begin + 1) log r kept) some in
+      let first : s.begin + 1 + count ≡ applied + 1 = omega (arith, from) in
+      let left : length log - count ≡ length (drop count log) = omega (arith, length-drop count log) in
+      let rest : run image (entries_in (content_at there applied) (applied + 1) (length (drop count log))) ≡ Ok (drop count log) = sym (λ i. run image (entries_in (content_at there applied) (first i) (left i))) ∙ read in
+      let files : KeepsFiles (applied + 1) (drop count log) states = subst (λ (n : ℕ). KeepsFiles n (drop count log) states) first (keeps_rest (s.begin + 1) count log states some still) in
+      gives_log limits epoch applied next (content_at there applied) (drop count log) states image here is turn_is (omega (arith, r.count, length-map log encode, length-drop count log, from, some)) (omega (arith, within, length-drop count log, from, some)) rest
+      (log_still image states (content_at there applied) (applied + 1) (length (drop count log)) (drop count log) rest files)
 
-  -- the log with one entry more, or without it
-  module _ (log : List Entry) (u : Entry) (kept : IsKept g.base first (log ++ u ∷ [])) (within : g.applied + length (log ++ u ∷ []) ≤ limits.positions) where
-    abbrev pub OutOrIn : Type 0
-    OutOrIn = GivesLog limits (with_log g log) states image ⊎ GivesLog limits (with_log g (log ++ u ∷ [])) states image
+  -- what the image gives where the state's doubt is settled so
+  log_gives : SettledEntry true s there → (turning : Option Applying) → s.turning ≡ turning → HasApplied limits s states → HasTurn limits s.epoch (content_at s) turning states → machine.IsTurningIn s.applied (machine.front s) s.next turning → Gives limits s states image
+  log_gives settled None none applied turn in_order =
+      let turn_is : image turn_file ≡ turn.turn = image_still states image turn_file turn.turn is turn.turn_still in
+      let g = base_image s.epoch s.applied s.manifest_next order.from order.to applied (ap content_length turn_is ∙ turn.length) in
+      (recovered_of (record there { turning = None }), g.0, (there, record there { turning = None }, settled, inl refl, refl), g.1)
+  log_gives settled (Some a) some applied (turn, later) in_order =
+      ⊎_elim
+      (λ before.
+      let g = base_image s.epoch s.applied s.manifest_next order.from order.to applied before in
+      (recovered_of (record there { turning = None }), g.0, (there, record there { turning = None }, settled, inl refl, refl), g.1))
+      (λ after.
+      let g = base_image (s.epoch + 1) a.position a.next (omega (arith, order.from, in_order.0)) in_order.1 later after in
+      (recovered_of (turned there a), g.0, (there, turned there a, settled, inr (ap (turned_by there) (sym some)), refl), g.1))
+      (turn.lengths (image turn_file) (is turn_file))
 
-    shorter : g.applied + length log ≤ limits.positions
-    shorter = omega (arith, within, length-append log (u ∷ []))
+-- ---- states that are stored
 
-    pub doubts_image : Doubts first (map encode log) (encode u) states → OutOrIn
-    doubts_image doubts =
-        let still : KeepsFiles first (log ++ u ∷ []) states = keeps first (log ++ u ∷ []) states (subst (λ (e : List (List ℕ)). KeepsEntries first e states) (sym (map_last log u)) doubts.each) in
-        ⊎_elim
-        (λ out. inl (log_image log out (keeps_front first log u states still) (kept_front g.base first log (u ∷ []) kept) shorter))
-        (λ in_. inr (log_image (log ++ u ∷ []) (subst (λ (e : List (List ℕ)). Recovers first image e) (sym (map_last log u)) in_) still kept within))
-        (doubts_recovers first (map encode log) (encode u) states doubts image is)
-
-    pub adding_image : (before : States) → Adding first (map encode log) (encode u) before states → OutOrIn
-    adding_image before adding = ⊎_elim (λ stands. inl (stands_image log stands (kept_front g.base first log (u ∷ []) kept) shorter)) (λ doubts. doubts_image doubts) adding.log
-
--- ---- what a state may recover to
-
--- nothing has been applied since the opening
-abbrev pub IsUnapplied : State → Type 0
-IsUnapplied s = (s.applied ≡ s.begin) × (s.turning ≡ None)
-
-take_none : (n : ℕ) (log : List Entry) → n ≡ 0 → take n log ≡ []
-take_none n log is = ap (λ (k : ℕ). take k log) is
-
-drop_none : (n : ℕ) (log : List Entry) → n ≡ 0 → drop n log ≡ log
-drop_none n log is = ap (λ (k : ℕ). drop k log) is
-
-recovered_same : (s : State) → s.applied ≡ s.begin → recovered_of s ≡ ground_of s
-recovered_same s is =
-    let none : s.applied - s.begin ≡ 0 = omega (arith, is) in
-    λ i. record { epoch = s.epoch; applied = is i; next = s.manifest_next; base = ap (after_all s.base) (take_none (s.applied - s.begin) s.log none) i; log = drop_none (s.applied - s.begin) s.log none i }
-
-may_recover : (s : State) (log : List Entry) → IsUnapplied s → (log ≡ s.log) ⊎ (log ≡ with_doubt s.log s.doubt) → MayRecover s (with_log (ground_of s) log)
-may_recover s log un (inl same) =
-    (record s { doubt = None }, record s { doubt = None }, inl refl, inl (λ i. record s { doubt = None; turning = un.1 i }), ap (with_log (ground_of s)) same ∙ sym (recovered_same (record s { doubt = None }) un.0))
-may_recover s log un (inr same) =
-    (record s { log = with_doubt s.log s.doubt; doubt = None }, record s { log = with_doubt s.log s.doubt; doubt = None }, inr refl, inl (λ i. record s { log = with_doubt s.log s.doubt; doubt = None; turning = un.1 i }), ap (with_log (ground_of s)) same ∙ sym (recovered_same (record s { log = with_doubt s.log s.doubt; doubt = None }) un.0))
-
-pub given : (limits : Limits) (s : State) (log : List Entry) (states : States) (image : Files) → IsUnapplied s → (log ≡ s.log) ⊎ (log ≡ with_doubt s.log s.doubt) → GivesLog limits (with_log (ground_of s) log) states image → Gives limits s states image
-given limits s log states image un settled (is, keeps) = (with_log (ground_of s) log, is, may_recover s log un settled, keeps)
+-- turn is still, or grown by one byte at most
+pub turn_steady : (limits : Limits) (epoch : ℕ) (contents : ℕ → Content) (turning : Option Applying) (states : States) → HasTurn limits epoch contents turning states → IsSteady (states turn_file)
+turn_steady limits epoch contents None states turn = subst IsSteady (sym turn.turn_still) tt
+turn_steady limits epoch contents (Some a) states (turn, later) = by turn.counting
+  where
+    by : IsCounting (states turn_file) → IsSteady (states turn_file)
+    by (x, inl is) = subst IsSteady (sym is) tt
+    by (x, inr is) = subst IsSteady (sym is) (let one : 1 ≤ 1 = omega arith in one)
 
 pub steady_by : (limits : Limits) (states : States) → IsSteady (states gate_file) → IsSteady (states turn_file) → AreSteady (recover limits) (Keeps limits) counters states
 steady_by limits states gate turn = (gate, (turn, tt))
 
-pub turn_steady : (limits : Limits) (g : Recovered) (states : States) → HasBase limits g states → IsSteady (states turn_file)
-turn_steady limits g states has = subst IsSteady (sym has.turn_still) tt
+-- the base of a state, with its turn
+pub record HasBases (limits : Limits) (s : State) (states : States) : Type 0 where
+  pub order : AreApplied s
+  pub base : HasApplied limits s states
+  pub turn : HasTurn limits s.epoch (content_at s) s.turning states
 
--- ---- states that are stored
+pub bases_of : (limits : Limits) (s : State) (states : States) → Stored limits s states → HasBases limits s states
+bases_of limits s states stored = record { order = stored.order; base = stored.base; turn = stored.turn }
 
-gives_by : (limits : Limits) (s : State) (doubt : Option Entry) (states : States) → s.doubt ≡ doubt → IsUnapplied s → StoredBy limits (ground_of s) doubt states → GivesThis limits s states
-gives_by limits s None states clear un stored = record {
-  steady = steady_by limits states (stands_steady (s.begin + 1) (map encode s.log) states stored.files) (turn_steady limits (ground_of s) states stored.base);
-  gives = λ image is. given limits s s.log states image un (inl refl) (stands_image limits (ground_of s) states stored.base image is s.log stored.files stored.legal stored.within);
+pub bases_steady : (limits : Limits) (s : State) (states : States) → HasBases limits s states → IsSteady (states turn_file)
+bases_steady limits s states has = turn_steady limits s.epoch (content_at s) s.turning states has.turn
+
+-- what leaves all files but the log's leaves it
+pub bases_kept : (limits : Limits) (s : State) (before states : States) → ((f : FileId) → is_based f ≡ true → states f ≡ before f) → HasBases limits s before → HasBases limits s states
+bases_kept limits s before states same has = record { order = has.order; base = base_kept limits s.epoch s.applied s.manifest_next (content_at s s.applied) before states same has.base; turn = turn_kept s.turning has.turn }
+  where
+    turn_kept : (turning : Option Applying) → HasTurn limits s.epoch (content_at s) turning before → HasTurn limits s.epoch (content_at s) turning states
+    turn_kept None turn = record { turn = turn.turn; turn_still = same turn_file refl ∙ turn.turn_still; length = turn.length }
+    turn_kept (Some a) (turn, later) = (subst (IsTurning s.epoch) (sym (same turn_file refl)) turn, base_kept limits (s.epoch + 1) a.position a.next (content_at s a.position) before states same later)
+
+-- a longer log leaves it
+pub bases_more : (limits : Limits) (s : State) (more : List Entry) (states : States) → HasBases limits s states → HasBases limits (with_more s more) states
+bases_more limits s more states has = record { order = order_more s more has.order; base = applied_more limits s more states has.order.to has.base; turn = turn_more limits s more s.turning states has.order.turn has.turn }
+
+module _ (limits : Limits) (s : State) (states : States) (has : HasBases limits s states) (image : Files) (is : IsImage states image) where
+  -- the image has this log, with which the state's doubt is settled
+  pub stands_image : (log more : List Entry) → log ≡ s.log ++ more → SettledEntry true s (record s { log = log; doubt = None }) → Recovers (s.begin + 1) image (map encode log) → KeepsFiles (s.begin + 1) log states → IsKept s.base (s.begin + 1) log → s.begin + length log ≤ limits.positions → Gives limits s states image
+  stands_image log more whole settled r still kept within = log_gives limits s has.order states image is log more whole r still kept within settled s.turning refl has.base has.turn has.order.turn
+
+  pub log_image : Stands (s.begin + 1) (map encode s.log) states → IsKept s.base (s.begin + 1) s.log → s.begin + length s.log ≤ limits.positions → Gives limits s states image
+  log_image stands kept within =
+      stands_image s.log [] (sym (append-nil s.log)) (inl refl) (stands_recovers (s.begin + 1) (map encode s.log) states stands image is) (keeps (s.begin + 1) s.log states stands.each) kept within
+
+  module _ (u : Entry) (kept : IsKept s.base (s.begin + 1) (s.log ++ u ∷ [])) (within : s.begin + length (s.log ++ u ∷ []) ≤ limits.positions) where
+    -- the entry is out, or it is in
+    abbrev pub OutOrIn : State → Type 0
+    OutOrIn new = Gives limits s states image ⊎ Gives limits new states image
+
+    shorter : s.begin + length s.log ≤ limits.positions
+    shorter = omega (arith, within, length-append s.log (u ∷ []))
+
+    -- where the old state and the new one may both have it, as in doubt or in
+    pub doubts_image : (new : State) → (Recovers (s.begin + 1) image (map encode (s.log ++ u ∷ [])) → KeepsFiles (s.begin + 1) (s.log ++ u ∷ []) states → Gives limits new states image)
+        → Doubts (s.begin + 1) (map encode s.log) (encode u) states → OutOrIn new
+    doubts_image new in_gives doubts =
+        let still : KeepsFiles (s.begin + 1) (s.log ++ u ∷ []) states = keeps (s.begin + 1) (s.log ++ u ∷ []) states (subst (λ (e : List (List ℕ)). KeepsEntries (s.begin + 1) e states) (sym (map_last s.log u)) doubts.each) in
+        ⊎_elim
+        (λ out. inl (stands_image s.log [] (sym (append-nil s.log)) (inl refl) out (keeps_front (s.begin + 1) s.log u states still) (kept_front s.base (s.begin + 1) s.log (u ∷ []) kept) shorter))
+        (λ in_. inr (in_gives (subst (λ (e : List (List ℕ)). Recovers (s.begin + 1) image e) (sym (map_last s.log u)) in_) still))
+        (doubts_recovers (s.begin + 1) (map encode s.log) (encode u) states doubts image is)
+
+    pub adding_image : (new : State) → (Recovers (s.begin + 1) image (map encode (s.log ++ u ∷ [])) → KeepsFiles (s.begin + 1) (s.log ++ u ∷ []) states → Gives limits new states image)
+        → (before : States) → Adding (s.begin + 1) (map encode s.log) (encode u) before states → OutOrIn new
+    adding_image new in_gives before adding = ⊎_elim (λ stands. inl (log_image stands (kept_front s.base (s.begin + 1) s.log (u ∷ []) kept) shorter)) (λ doubts. doubts_image new in_gives doubts) adding.log
+
+-- where the entry is in doubt, the state may have it in
+pub doubted_gives : (limits : Limits) (s : State) (states : States) → HasBases limits s states → (image : Files) → IsImage states image → (u : Entry) → IsKept s.base (s.begin + 1) (s.log ++ u ∷ []) → s.begin + length (s.log ++ u ∷ []) ≤ limits.positions → s.doubt ≡ Some u
+    → Recovers (s.begin + 1) image (map encode (s.log ++ u ∷ [])) → KeepsFiles (s.begin + 1) (s.log ++ u ∷ []) states → Gives limits s states image
+doubted_gives limits s states has image is u kept within doubted r still =
+    stands_image limits s states has image is (s.log ++ u ∷ []) (u ∷ []) refl (inr (ap (λ (d : Option Entry). record s { log = with_doubt s.log d; doubt = None }) (sym doubted))) r still kept within
+
+gives_by : (limits : Limits) (s : State) (doubt : Option Entry) (states : States) → s.doubt ≡ doubt → HasBases limits s states → FilesHave (s.begin + 1) s.log doubt states → IsKept s.base (s.begin + 1) (with_doubt s.log doubt) → s.begin + length (with_doubt s.log doubt) ≤ limits.positions → GivesThis limits s states
+gives_by limits s None states clear has files kept within = record {
+  steady = steady_by limits states (stands_steady (s.begin + 1) (map encode s.log) states files) (bases_steady limits s states has);
+  gives = λ image is. log_image limits s states has image is files kept within;
 }
-gives_by limits s (Some u) states doubted un stored = record {
-  steady = steady_by limits states (doubts_steady (s.begin + 1) (map encode s.log) (encode u) states stored.files) (turn_steady limits (ground_of s) states stored.base);
+gives_by limits s (Some u) states doubted has files kept within = record {
+  steady = steady_by limits states (doubts_steady (s.begin + 1) (map encode s.log) (encode u) states files) (bases_steady limits s states has);
   gives = λ image is.
-      ⊎_elim (λ out. given limits s s.log states image un (inl refl) out) (λ in_. given limits s (s.log ++ u ∷ []) states image un (inr (sym (ap (with_doubt s.log) doubted))) in_)
-      (doubts_image limits (ground_of s) states stored.base image is s.log u stored.legal stored.within stored.files);
+      ⊎_elim (λ out. out) (λ in_. in_)
+      (doubts_image limits s states has image is u kept within s (doubted_gives limits s states has image is u kept within doubted) files);
 }
 
 pub stored_gives : (limits : Limits) (s : State) (states : States) → Stored limits s states → GivesThis limits s states
-stored_gives limits s states stored = gives_by limits s s.doubt states refl (stored.applied, stored.turning) stored.by
+stored_gives limits s states stored = gives_by limits s s.doubt states refl (bases_of limits s states stored) stored.files stored.legal stored.within

@@ -10,3 +10,9 @@ pub mod Moves
 pub mod Good
 pub mod Opened
 pub mod Placed
+pub mod Memory
+pub mod Part
+pub mod Known
+pub mod Framed
+pub mod Applied
+pub mod Turns

@@ -2,25 +2,22 @@
 use Rattle.std.proofs.Common.{◌≡◌, ℕ, zero, suc, ◌+◌, ◌-◌, ◌<◌, max, true, List, [], ◌∷◌, ◌++◌, Result, Ok, Err, refl, sym, ap, ◌∙◌, subst, arith, append_assoc}
 use Rattle.std.proofs.lemmas.List.{append-nil}
 use Rattle.gt_disk.specs.Files.{Files, View, Quiet}
-use Rattle.gt_disk.specs.Kinds.{gate_file, entry_file}
-use Rattle.gt_log.specs.Log.{content_length}
+use Rattle.gt_disk.specs.Kinds.{entry_file}
 use Rattle.gt_log.specs.declared.mount_cause.MountCause.{MountCause}
 use Rattle.gt_model.specs.declared.change.Change.{Change}
 use Rattle.gt_model.specs.declared.change.Change.TheVariants.{Create, Delete, Link, Write, Repack, Prune, PackRefs, Unlink}
 use Rattle.gt_model.specs.declared.entry.Entry.{Entry}
 use Rattle.gt_model.specs.Batches.{file_of, next_past}
-use Rattle.gt_model.specs.declared.limits.Limits.{Limits}
 use Rattle.gt_model.specs.Contents.{Content, after, after_all}
 use Rattle.gt_model.proofs.Logs.{after_all-append}
-use Rattle.gt_table.specs.Table.{Tables}
 use Rattle.gt_disk.specs.declared.file_id.FileId.{FileId}
 use Rattle.gt_log.specs.declared.mount_cause.MountCause.TheVariants.{DeviceFault, Damaged, Memory}
-use Rattle.gt_reading.specs.Reading.{Damage, run}
+use Rattle.gt_reading.specs.Reading.{Damage}
 use Rattle.gt_base.specs.Answers.{Reads}
 use Rattle.gt_base.specs.Built.{is_built, IsBuilt}
-use Rattle.gt_base.specs.Entries.{entry_of as entry_at, entries_in}
+use Rattle.gt_base.specs.Entries.{entry_of as entry_at}
 use Rattle.gt_journal.specs.Loading.{Loads, in_file}
-use Rattle.gt_journal.proofs.ReadLog.{and_more, read_log, prepend, entries_are}
+use Rattle.gt_journal.proofs.ReadLog.{and_more, read_log, prepend}
 
 prepend_none : (r : Result (List Entry) Damage) → r ≡ prepend [] r
 prepend_none (Ok us) = refl

@@ -1,25 +1,24 @@
 -- The parts of a call, from what the log of a disk says of them.
-use Rattle.std.proofs.Common.{◌≡◌, ◌≢◌, ◌⊎◌, inl, inr, ⊎_elim, ℕ, ◌+◌, ◌<◌, ◌≤◌, not, ◌&&◌, nat_eq, true, false, List, [], ◌∷◌, ◌++◌, length, map, Option, Some, None, Ok, refl, sym, ◌∙◌, ap, subst, arith, length-append}
+use Rattle.std.proofs.Common.{◌≡◌, ◌≢◌, ◌⊎◌, inl, inr, ⊎_elim, ℕ, ◌+◌, ◌<◌, ◌≤◌, not, ◌&&◌, nat_eq, true, false, List, [], ◌∷◌, ◌++◌, length, map, Option, Some, None, Ok, refl, sym, ◌∙◌, ap, subst, arith, length-append, append-nil}
 use Rattle.std.proofs.lemmas.Bool.{cases_lt}
 use Rattle.std.proofs.lemmas.List.{length-map}
 use Rattle.gt_disk.specs.declared.file_id.FileId.{FileId}
-use Rattle.gt_disk.specs.Files.{States, View, now}
-use Rattle.gt_disk.specs.Kinds.{gate_file, entry_file, pack_file}
+use Rattle.gt_disk.specs.Files.{Files, States, View, now, IsImage}
+use Rattle.gt_disk.specs.Kinds.{gate_file, entry_file}
 use Rattle.gt_disk.specs.Moments.{Since}
 use Rattle.gt_disk.proofs.Steps.{since_none}
-use Rattle.gt_log.specs.Log.{Stands, Doubts, Adding, Staying, AfterSettle}
+use Rattle.gt_log.specs.Log.{Recovers, Stands, Doubts, Adding, Staying, AfterSettle}
 use Rattle.gt_model.specs.declared.entry.Entry.{Entry}
 use Rattle.gt_model.specs.declared.limits.Limits.{Limits}
 use Rattle.gt_model.specs.Machine.{Pin, State, with_doubt, SettledEntry}
 use Rattle.gt_table.specs.Table.{base}
 use Rattle.gt_history.proofs.Moves.{since_weaken}
 use Rattle.gt_base.specs.Spelling.{encode}
-use Rattle.gt_journal.specs.Ledger.{Ledger, state_of, changed, IsKept, FilesHave, HasBase, StoredBy, ground_of, Stored, KeepsPacks}
-use Rattle.gt_journal.specs.Histories.{GivesThis, GivesEither, Moves, Settling}
-use Rattle.gt_journal.proofs.Recovering.{kept_front, map_last}
+use Rattle.gt_journal.specs.Ledger.{Ledger, state_of, changed, IsKept, FilesHave, Stored, is_based, KeepsBase}
+use Rattle.gt_journal.specs.Histories.{Gives, GivesThis, GivesEither, Moves, Settling}
+use Rattle.gt_journal.proofs.Recovering.{kept_front, map_last, KeepsFiles}
 use Rattle.gt_journal.proofs.Steady.{stands_steady, adding_steady}
-use Rattle.gt_journal.proofs.Based.{is_based, base_kept}
-use Rattle.gt_journal.proofs.Images.{given, steady_by, turn_steady, stands_image, adding_image}
+use Rattle.gt_journal.proofs.Images.{HasBases, bases_of, bases_kept, bases_more, bases_steady, steady_by, stands_image, log_image, adding_image, doubted_gives}
 
 -- ---- what a call leaves of the state
 
@@ -27,8 +26,8 @@ abbrev pub changed_to : Ledger → List Entry → Option Entry → List Pin → 
 changed_to old log doubt pins = state_of (changed old log doubt) pins
 
 -- a ledger that differs in its log and its doubt alone
-pub ledger_is : (old new : Ledger) (log : List Entry) (doubt : Option Entry) → new.past ≡ record old.past { log = log } → new.doubt ≡ doubt → new.epoch ≡ old.epoch → new.manifest_next ≡ old.manifest_next → new.next ≡ old.next → new ≡ changed old log doubt
-ledger_is old new log doubt past_is doubt_is epoch_is manifest_is next_is = λ i. record { past = past_is i; doubt = doubt_is i; epoch = epoch_is i; manifest_next = manifest_is i; next = next_is i }
+pub ledger_is : (old new : Ledger) (log : List Entry) (doubt : Option Entry) → new.past ≡ record old.past { log = log } → new.doubt ≡ doubt → new.base ≡ old.base → new.next ≡ old.next → new ≡ changed old log doubt
+ledger_is old new log doubt past_is doubt_is base_is next_is = λ i. record { past = past_is i; doubt = doubt_is i; base = base_is i; next = next_is i }
 
 pub moves_as : (limits : Limits) (old new other : Ledger) (before after : List Pin) (v w : View) → new ≡ other → Moves limits (state_of old before) (state_of other after) v w → Moves limits (state_of old before) (state_of new after) v w
 moves_as limits old new other before after v w same moves = subst (λ (l : Ledger). Moves limits (state_of old before) (state_of l after) v w) (sym same) moves
@@ -93,146 +92,159 @@ module _ (limits : Limits) (old : Ledger) (before after : List Pin) where
   abbrev File : ℕ
   File = length (map encode old_log) + first
 
-  -- what is stored at the end, over the base that stays
-  stored_end : (log : List Entry) (doubt : Option Entry) (v w : View) → ((f : FileId) → is_based f ≡ true → now w f ≡ now v f) → HasBase limits (ground_of s) (now v) → FilesHave first log doubt (now w) → IsKept (base old.past) first (with_doubt log doubt) → old.past.begin + length (with_doubt log doubt) ≤ limits.positions → Stored limits (changed_to old log doubt after) (now w)
-  stored_end log doubt v w same has files kept within =
-      let b = base_kept limits (ground_of s) (now v) (now w) same has in
+  -- what is stored, with what the files have of the base and of the log
+  stored_of : (s : State) (states : States) → HasBases limits s states → FilesHave (s.begin + 1) s.log s.doubt states → IsKept s.base (s.begin + 1) (with_doubt s.log s.doubt) → s.begin + length (with_doubt s.log s.doubt) ≤ limits.positions → Stored limits s states
+  stored_of s states has files kept within = record { files = files; legal = kept; within = within; order = has.order; base = has.base; turn = has.turn }
+
+  -- the same base with another doubt, and with another entry in the log
+  bases_same : (doubt : Option Entry) (states : States) → HasBases limits s states → HasBases limits (changed_to old old_log doubt after) states
+  bases_same doubt states has = record { order = record { from = has.order.from; to = has.order.to; turn = has.order.turn }; base = has.base; turn = has.turn }
+
+  bases_in : (u : Entry) (states : States) → HasBases limits s states → HasBases limits (changed_to old (old_log ++ u ∷ []) None after) states
+  bases_in u states has =
+      let more = bases_more limits s (u ∷ []) states has in
+      record { order = record { from = more.order.from; to = more.order.to; turn = more.order.turn }; base = more.base; turn = more.turn }
+
+  -- the base at a moment at which only the log's files differ
+  bases_at : (v : View) (states : States) → ((g : FileId) → g ≢ gate_file → g ≢ entry_file File → states g ≡ now v g) → HasBases limits s (now v) → HasBases limits s states
+  bases_at v states others has = bases_kept limits s (now v) states (others_based File (now v) states others) has
+
+  files_of : (doubt : Option Entry) (states : States) → old.doubt ≡ doubt → Stored limits s states → FilesHave first old_log doubt states
+  files_of doubt states is stored = subst (λ (d : Option Entry). FilesHave first old_log d states) is stored.files
+
+  legal_of : (doubt : Option Entry) (states : States) → old.doubt ≡ doubt → Stored limits s states → IsKept (base old.past) first (with_doubt old_log doubt)
+  legal_of doubt states is stored = subst (λ (d : Option Entry). IsKept (base old.past) first (with_doubt old_log d)) is stored.legal
+
+  within_of : (doubt : Option Entry) (states : States) → old.doubt ≡ doubt → Stored limits s states → old.past.begin + length (with_doubt old_log doubt) ≤ limits.positions
+  within_of doubt states is stored = subst (λ (d : Option Entry). old.past.begin + length (with_doubt old_log d) ≤ limits.positions) is stored.within
+
+  -- each image of a moment of an addition has the entry out, or in where the new state has it
+  adding_either : (new : State) (u : Entry) (v : View) (states : States) → HasBases limits s (now v) → IsKept (base old.past) first (old_log ++ u ∷ []) → old.past.begin + length (old_log ++ u ∷ []) ≤ limits.positions → Adding first (map encode old_log) (encode u) (now v) states
+      → ((image : Files) → IsImage states image → Recovers first image (map encode (old_log ++ u ∷ [])) → KeepsFiles first (old_log ++ u ∷ []) states → Gives limits new states image) → GivesEither limits s new states
+  adding_either new u v states has more within a in_gives =
+      let here = bases_at v states a.others has in
       record {
-        applied = refl;
-        turning = refl;
-        by = record { files = files; legal = kept; within = within; base = record { turn = b.turn; turn_still = b.turn_still; turn_length = b.turn_length; few = b.few; based = b.based; reads = b.reads; epoch = b.epoch; applied = b.applied; next = b.next; content = b.content } };
+        steady = steady_by limits states (adding_steady first (map encode old_log) (encode u) (now v) states a) (bases_steady limits s states here);
+        gives = λ image im. adding_image limits s states here image im u more within new (in_gives image im) (now v) a;
       }
-
-  packs_of : (v w : View) → ((f : FileId) → is_based f ≡ true → now w f ≡ now v f) → KeepsPacks v w
-  packs_of v w same n = same (pack_file n) refl
-
-  -- at a moment of an addition the base is there
-  base_at : (u : Entry) (v : View) (states : States) → HasBase limits (ground_of s) (now v) → Adding first (map encode old_log) (encode u) (now v) states → HasBase limits (ground_of s) states
-  base_at u v states has a = base_kept limits (ground_of s) (now v) states (others_based File (now v) states a.others) has
-
-  files_of : (doubt : Option Entry) (states : States) → old.doubt ≡ doubt → StoredBy limits (ground_of s) s.doubt states → StoredBy limits (ground_of s) doubt states
-  files_of doubt states is stored = subst (λ (d : Option Entry). StoredBy limits (ground_of s) d states) is stored
 
   pub moves_done : (u : Entry) (v w : View) → old.doubt ≡ None → (IsKept (base old.past) first old_log → IsKept (base old.past) first (old_log ++ u ∷ [])) → old.past.begin + length old_log < limits.positions
       → (Stands first (map encode old_log) (now v) → Added u v w) → (Stands first (map encode old_log) (now v) → Stands first (map encode old_log ++ encode u ∷ []) (now w)) → MovesOf (changed_to old (old_log ++ u ∷ []) None after) v w
   moves_done u v w none legal room added later = (
     (λ stored.
-        let by = files_of None (now v) none stored.by in
-        let more = legal by.legal in
+        let files = files_of None (now v) none stored in
+        let more = legal (legal_of None (now v) none stored) in
         let within : old.past.begin + length (old_log ++ u ∷ []) ≤ limits.positions = omega (arith, room, length-append old_log (u ∷ [])) in
-        let since = added by.files in
-        let same = others_end File v w (Adding first (map encode old_log) (encode u) (now v)) since (λ states a. a.others) in (
-          stored_end (old_log ++ u ∷ []) None v w same by.base (subst (λ (e : List (List ℕ)). Stands first e (now w)) (sym (map_last old_log u)) (later by.files)) more within,
-          since_weaken (Adding first (map encode old_log) (encode u) (now v)) (GivesEither limits s (changed_to old (old_log ++ u ∷ []) None after)) v w since (λ states a.
-              let has = base_at u v states by.base a in
-              record {
-                steady = steady_by limits states (adding_steady first (map encode old_log) (encode u) (now v) states a) (turn_steady limits (ground_of s) states has);
-                gives = λ image im.
-                    ⊎_elim (λ out. inl (given limits s old_log states image (refl, refl) (inl refl) out)) (λ in_. inr (given limits (changed_to old (old_log ++ u ∷ []) None after) (old_log ++ u ∷ []) states image (refl, refl) (inl refl) in_))
-                    (adding_image limits (ground_of s) states has image im old_log u more within (now v) a);
-              }),
+        let since = added files in
+        let same = others_end File v w (Adding first (map encode old_log) (encode u) (now v)) since (λ states a. a.others) in
+        let new = changed_to old (old_log ++ u ∷ []) None after in
+        let has = bases_of limits s (now v) stored in (
+          stored_of new (now w) (bases_in u (now w) (bases_kept limits s (now v) (now w) same has)) (subst (λ (e : List (List ℕ)). Stands first e (now w)) (sym (map_last old_log u)) (later files)) more within,
+          since_weaken (Adding first (map encode old_log) (encode u) (now v)) (GivesEither limits s new) v w since (λ states a.
+              adding_either new u v states has more within a (λ image im r still.
+              stands_image limits new states (bases_in u states (bases_at v states a.others has)) image im (old_log ++ u ∷ []) [] (sym (append-nil (old_log ++ u ∷ []))) (inl refl) r still more within)),
         )),
-    λ stored.
-        let by = files_of None (now v) none stored.by in
-        packs_of v w (others_end File v w (Adding first (map encode old_log) (encode u) (now v)) (added by.files) (λ states a. a.others)),
+    λ stored. others_end File v w (Adding first (map encode old_log) (encode u) (now v)) (added (files_of None (now v) none stored)) (λ states a. a.others),
   )
 
   pub moves_unsure : (u : Entry) (v w : View) → old.doubt ≡ None → (IsKept (base old.past) first old_log → IsKept (base old.past) first (old_log ++ u ∷ [])) → old.past.begin + length old_log < limits.positions
       → (Stands first (map encode old_log) (now v) → Added u v w) → (Stands first (map encode old_log) (now v) → Doubts first (map encode old_log) (encode u) (now w)) → MovesOf (changed_to old old_log (Some u) after) v w
   moves_unsure u v w none legal room added later = (
     (λ stored.
-        let by = files_of None (now v) none stored.by in
-        let more = legal by.legal in
+        let files = files_of None (now v) none stored in
+        let more = legal (legal_of None (now v) none stored) in
         let within : old.past.begin + length (old_log ++ u ∷ []) ≤ limits.positions = omega (arith, room, length-append old_log (u ∷ [])) in
-        let since = added by.files in
-        let same = others_end File v w (Adding first (map encode old_log) (encode u) (now v)) since (λ states a. a.others) in (
-          stored_end old_log (Some u) v w same by.base (later by.files) more within,
-          since_weaken (Adding first (map encode old_log) (encode u) (now v)) (GivesEither limits s (changed_to old old_log (Some u) after)) v w since (λ states a.
-              let has = base_at u v states by.base a in
-              record {
-                steady = steady_by limits states (adding_steady first (map encode old_log) (encode u) (now v) states a) (turn_steady limits (ground_of s) states has);
-                gives = λ image im.
-                    ⊎_elim (λ out. inl (given limits s old_log states image (refl, refl) (inl refl) out)) (λ in_. inr (given limits (changed_to old old_log (Some u) after) (old_log ++ u ∷ []) states image (refl, refl) (inr refl) in_))
-                    (adding_image limits (ground_of s) states has image im old_log u more within (now v) a);
-              }),
+        let since = added files in
+        let same = others_end File v w (Adding first (map encode old_log) (encode u) (now v)) since (λ states a. a.others) in
+        let new = changed_to old old_log (Some u) after in
+        let has = bases_of limits s (now v) stored in (
+          stored_of new (now w) (bases_same (Some u) (now w) (bases_kept limits s (now v) (now w) same has)) (later files) more within,
+          since_weaken (Adding first (map encode old_log) (encode u) (now v)) (GivesEither limits s new) v w since (λ states a.
+              adding_either new u v states has more within a (λ image im r still. doubted_gives limits new states (bases_same (Some u) states (bases_at v states a.others has)) image im u more within refl r still)),
         )),
-    λ stored.
-        let by = files_of None (now v) none stored.by in
-        packs_of v w (others_end File v w (Adding first (map encode old_log) (encode u) (now v)) (added by.files) (λ states a. a.others)),
+    λ stored. others_end File v w (Adding first (map encode old_log) (encode u) (now v)) (added (files_of None (now v) none stored)) (λ states a. a.others),
   )
 
   -- nothing was added
   pub moves_not : (v w : View) → old.doubt ≡ None → (Stands first (map encode old_log) (now v) → Since (Staying first (map encode old_log) (now v)) v w) → (Stands first (map encode old_log) (now v) → Stands first (map encode old_log) (now w)) → MovesOf (changed_to old old_log None after) v w
   moves_not v w none staying later = (
     (λ stored.
-        let by = files_of None (now v) none stored.by in
-        let since = staying by.files in
-        let same = others_end File v w (Staying first (map encode old_log) (now v)) since (λ states a. a.others) in (
-          stored_end old_log None v w same by.base (later by.files) by.legal by.within,
-          since_weaken (Staying first (map encode old_log) (now v)) (GivesEither limits s (changed_to old old_log None after)) v w since (λ states a.
-              let has = base_kept limits (ground_of s) (now v) states (others_based File (now v) states a.others) by.base in
+        let files = files_of None (now v) none stored in
+        let legal = legal_of None (now v) none stored in
+        let within = within_of None (now v) none stored in
+        let since = staying files in
+        let same = others_end File v w (Staying first (map encode old_log) (now v)) since (λ states a. a.others) in
+        let new = changed_to old old_log None after in
+        let has = bases_of limits s (now v) stored in (
+          stored_of new (now w) (bases_same None (now w) (bases_kept limits s (now v) (now w) same has)) (later files) legal within,
+          since_weaken (Staying first (map encode old_log) (now v)) (GivesEither limits s new) v w since (λ states a.
+              let here = bases_at v states a.others has in
               record {
-                steady = steady_by limits states (stands_steady first (map encode old_log) states a.log) (turn_steady limits (ground_of s) states has);
-                gives = λ image im. inl (given limits s old_log states image (refl, refl) (inl refl) (stands_image limits (ground_of s) states has image im old_log a.log by.legal by.within));
+                steady = steady_by limits states (stands_steady first (map encode old_log) states a.log) (bases_steady limits s states here);
+                gives = λ image im. inl (log_image limits s states here image im a.log legal within);
               }),
         )),
-    λ stored.
-        let by = files_of None (now v) none stored.by in
-        packs_of v w (others_end File v w (Staying first (map encode old_log) (now v)) (staying by.files) (λ states a. a.others)),
+    λ stored. others_end File v w (Staying first (map encode old_log) (now v)) (staying (files_of None (now v) none stored)) (λ states a. a.others),
   )
 
   -- ---- settling
 
-  during_doubt : (u : Entry) (v w : View) → old.doubt ≡ Some u → StoredBy limits (ground_of s) (Some u) (now v) → Added u v w → Since (GivesThis limits s) v w
-  during_doubt u v w is by since =
+  during_doubt : (u : Entry) (v w : View) → old.doubt ≡ Some u → Stored limits s (now v) → Added u v w → Since (GivesThis limits s) v w
+  during_doubt u v w is stored since =
+      let legal = legal_of (Some u) (now v) is stored in
+      let within = within_of (Some u) (now v) is stored in
+      let has = bases_of limits s (now v) stored in
       since_weaken (Adding first (map encode old_log) (encode u) (now v)) (GivesThis limits s) v w since (λ states a.
-      let has = base_at u v states by.base a in
-      record {
-        steady = steady_by limits states (adding_steady first (map encode old_log) (encode u) (now v) states a) (turn_steady limits (ground_of s) states has);
-        gives = λ image im.
-            ⊎_elim (λ out. given limits s old_log states image (refl, refl) (inl refl) out) (λ in_. given limits s (old_log ++ u ∷ []) states image (refl, refl) (inr (sym (ap (with_doubt old_log) is))) in_)
-            (adding_image limits (ground_of s) states has image im old_log u by.legal by.within (now v) a);
-      })
+      let here = bases_at v states a.others has in
+      let either = adding_either s u v states has legal within a (λ image im r still. doubted_gives limits s states here image im u legal within is r still) in
+      record { steady = either.steady; gives = λ image im. ⊎_elim (λ out. out) (λ in_. in_) (either.gives image im) })
 
-  -- the packs stay while a doubt is settled
-  packs_settled : (u : Entry) (v w : View) → old.doubt ≡ Some u → (Doubts first (map encode old_log) (encode u) (now v) → Added u v w) → Stored limits s (now v) → KeepsPacks v w
-  packs_settled u v w is added stored =
-      let by = files_of (Some u) (now v) is stored.by in
-      packs_of v w (others_end File v w (Adding first (map encode old_log) (encode u) (now v)) (added by.files) (λ states a. a.others))
+  -- no file but the log's changes while a doubt is settled
+  keeps_settled : (u : Entry) (v w : View) → old.doubt ≡ Some u → (Doubts first (map encode old_log) (encode u) (now v) → Added u v w) → Stored limits s (now v) → KeepsBase v w
+  keeps_settled u v w is added stored = others_end File v w (Adding first (map encode old_log) (encode u) (now v)) (added (files_of (Some u) (now v) is stored)) (λ states a. a.others)
 
   pub settled_in : (u : Entry) (len : ℕ) (v w : View) → old.doubt ≡ Some u → (Doubts first (map encode old_log) (encode u) (now v) → Added u v w)
       → (Doubts first (map encode old_log) (encode u) (now v) → AfterSettle (Ok true) first (map encode old_log) (encode u) len (now w)) → SettlingOf (changed_to old (old_log ++ u ∷ []) None after) v w
   settled_in u len v w is added later = (
     (λ stored.
-        let by = files_of (Some u) (now v) is stored.by in
-        let since = added by.files in
-        let same = others_end File v w (Adding first (map encode old_log) (encode u) (now v)) since (λ states a. a.others) in
-        (stored_end (old_log ++ u ∷ []) None v w same by.base (subst (λ (e : List (List ℕ)). Stands first e (now w)) (sym (map_last old_log u)) (later by.files).1) by.legal by.within, during_doubt u v w is by since)),
-    packs_settled u v w is added,
+        let files = files_of (Some u) (now v) is stored in
+        let same = keeps_settled u v w is added stored in (
+          stored_of (changed_to old (old_log ++ u ∷ []) None after) (now w) (bases_in u (now w) (bases_kept limits s (now v) (now w) same (bases_of limits s (now v) stored))) (subst (λ (e : List (List ℕ)). Stands first e (now w)) (sym (map_last old_log u)) (later files).1)
+              (legal_of (Some u) (now v) is stored) (within_of (Some u) (now v) is stored),
+          during_doubt u v w is stored (added files),
+        )),
+    keeps_settled u v w is added,
   )
 
   pub settled_out : (u : Entry) (len : ℕ) (v w : View) → old.doubt ≡ Some u → (Doubts first (map encode old_log) (encode u) (now v) → Added u v w)
       → (Doubts first (map encode old_log) (encode u) (now v) → AfterSettle (Ok false) first (map encode old_log) (encode u) len (now w)) → SettlingOf (changed_to old old_log None after) v w
   settled_out u len v w is added later = (
     (λ stored.
-        let by = files_of (Some u) (now v) is stored.by in
-        let since = added by.files in
-        let same = others_end File v w (Adding first (map encode old_log) (encode u) (now v)) since (λ states a. a.others) in
-        (stored_end old_log None v w same by.base (later by.files).1 (kept_front (base old.past) first old_log (u ∷ []) by.legal) (omega (arith, by.within, length-append old_log (u ∷ []))), during_doubt u v w is by since)),
-    packs_settled u v w is added,
+        let files = files_of (Some u) (now v) is stored in
+        let same = keeps_settled u v w is added stored in
+        let within = within_of (Some u) (now v) is stored in (
+          stored_of (changed_to old old_log None after) (now w) (bases_same None (now w) (bases_kept limits s (now v) (now w) same (bases_of limits s (now v) stored))) (later files).1
+              (kept_front (base old.past) first old_log (u ∷ []) (legal_of (Some u) (now v) is stored)) (omega (arith, within, length-append old_log (u ∷ []))),
+          during_doubt u v w is stored (added files),
+        )),
+    keeps_settled u v w is added,
   )
 
   pub still_in_doubt : (u : Entry) (v w : View) → old.doubt ≡ Some u → (Doubts first (map encode old_log) (encode u) (now v) → Added u v w)
       → (Doubts first (map encode old_log) (encode u) (now v) → Doubts first (map encode old_log) (encode u) (now w)) → SettlingOf (changed_to old old_log (Some u) after) v w
   still_in_doubt u v w is added later = (
     (λ stored.
-        let by = files_of (Some u) (now v) is stored.by in
-        let since = added by.files in
-        let same = others_end File v w (Adding first (map encode old_log) (encode u) (now v)) since (λ states a. a.others) in
-        (stored_end old_log (Some u) v w same by.base (later by.files) by.legal by.within, during_doubt u v w is by since)),
-    packs_settled u v w is added,
+        let files = files_of (Some u) (now v) is stored in
+        let same = keeps_settled u v w is added stored in (
+          stored_of (changed_to old old_log (Some u) after) (now w) (bases_same (Some u) (now w) (bases_kept limits s (now v) (now w) same (bases_of limits s (now v) stored))) (later files) (legal_of (Some u) (now v) is stored) (within_of (Some u) (now v) is stored),
+          during_doubt u v w is stored (added files),
+        )),
+    keeps_settled u v w is added,
   )
 
   -- where nothing is in doubt the disk isn't asked
   pub settling_none : (v : View) → SettlingOf (state_of old after) v v
-  settling_none v = ((λ stored. (record { applied = refl; turning = refl; by = stored.by }, since_none (GivesThis limits s) v)), λ stored n. refl)
+  settling_none v = ((λ stored. (pins_stored stored, since_none (GivesThis limits s) v)), λ stored f is. refl)
+    where
+      pins_stored : Stored limits s (now v) → Stored limits (state_of old after) (now v)
+      pins_stored stored = record { files = stored.files; legal = stored.legal; within = stored.within; order = record { from = stored.order.from; to = stored.order.to; turn = stored.order.turn }; base = stored.base; turn = stored.turn }

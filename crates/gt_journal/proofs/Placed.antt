@@ -1,5 +1,5 @@
 -- The record that is found under a name stands at its place in the files that have the base and its log.
-use Rattle.std.proofs.Common.{◌≡◌, ℕ, ◌+◌, ◌-◌, ◌≤◌, List, [], ◌∷◌, length, map, Option, Some, None, inl, inr, ⊎_elim, refl, sym, ◌∙◌, ap}
+use Rattle.std.proofs.Common.{◌≡◌, ℕ, ◌+◌, ◌-◌, ◌≤◌, List, [], ◌∷◌, length, map, Option, Some, None, ⊎_elim, refl, sym, ◌∙◌, ap}
 use Rattle.std.specs.Prelude.{◌^◌, slice_get}
 use Rattle.std.specs.Option.{option_map, option_or}
 use Rattle.std.proofs.lemmas.Option.{get_or_from_slice_get, slice_get-map, slice_get_within}
@@ -10,7 +10,6 @@ use Rattle.gt_log.specs.Log.{KeepsEntries}
 use Rattle.gt_log.proofs.Images.{image_still, keeps_front}
 use Rattle.sha1.specs.Sha1.{sha1}
 use Rattle.gt_model.specs.declared.entry.Entry.{Entry}
-use Rattle.gt_model.specs.declared.limits.Limits.{Limits}
 use Rattle.gt_model.specs.Contents.{Content, and_then, own, pool_of, found}
 use Rattle.gt_model.specs.Soundness.{IsSound}
 use Rattle.gt_model.specs.Machine.{with_doubt, opening}
@@ -24,7 +23,7 @@ use Rattle.gt_base.specs.Held.{places_of, HoldsPacks}
 use Rattle.gt_base.specs.Spelling.{encode}
 use Rattle.gt_table.specs.Table.{base, content_at, place_at}
 use Rattle.gt_base.proofs.Contents.{base_placed}
-use Rattle.gt_journal.specs.Ledger.{Ledger, IsKept, FilesHave, StoredBy, ground}
+use Rattle.gt_journal.specs.Ledger.{Ledger, IsKept, FilesHave, HasLog, ground}
 use Rattle.gt_journal.proofs.Recovering.{kept_front}
 use Rattle.gt_journal.proofs.Typing.{entries_typed}
 use Rattle.gt_base.proofs.Packed.{based_there}
@@ -66,9 +65,9 @@ pub record IsHeld (files : Files) (place : Place) (name whole : List ℕ) : Type
   pub is : piece (files place.file) place ≡ whole
   pub of_name : IsRecordOf name whole
 
-pub placed_is : (limits : Limits) (l : Ledger) (states : States) (files : Files) (position : ℕ) (path name whole : List ℕ) (place : Place) → l.past.begin + 1 + length l.past.log ≤ 2 ^ 64 → StoredBy limits (ground l) l.doubt states → HoldsPacks l.past.repos states
+pub placed_is : (l : Ledger) (states : States) (files : Files) (position : ℕ) (path name whole : List ℕ) (place : Place) → l.past.begin + 1 + length l.past.log ≤ 2 ^ 64 → HasLog l states → HoldsPacks l.past.repos states
     → IsSoundState (opening (ground l)) → IsImage states files → place_at l.past position path name ≡ Some place → found (content_at l.past position) path name ≡ Some whole → IsHeld files place name whole
-placed_is limits l states files position path name whole place few stored packs sound shows is has =
+placed_is l states files position path name whole place few stored packs sound shows is has =
     let begin = l.past.begin in
     let log = l.past.log in
     let legal = kept_log (base l.past) (begin + 1) log l.doubt stored.legal in

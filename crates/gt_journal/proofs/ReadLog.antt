@@ -4,7 +4,7 @@ use Rattle.gt_disk.specs.Files.{Files}
 use Rattle.gt_disk.specs.Kinds.{entry_file}
 use Rattle.gt_model.specs.declared.entry.Entry.{Entry}
 use Rattle.gt_model.specs.Contents.{Content, after}
-use Rattle.gt_reading.specs.Reading.{Damage, Reading, done, run, parsed, ◌>>=◌}
+use Rattle.gt_reading.specs.Reading.{Damage, done, run, parsed, ◌>>=◌}
 use Rattle.gt_reading.proofs.Programs.{mapped, run_mapped}
 use Rattle.gt_base.specs.Entries.{entry_of, entries_in}
 

@@ -41,7 +41,7 @@ Opens recovered (Err cause) = Blames recovered cause
 
 -- The next free file number is above each file that an entry has.
 abbrev pub IsNumbered : Ledger → Type 0
-IsNumbered l = l.next ≡ next_past l.manifest_next l.past.log
+IsNumbered l = l.next ≡ next_past l.base.manifest.next l.past.log
 
 -- A failing disk is blamed where its count of faults rose, and only there, of an entry that is added.
 pub record HasAddCause (before after : ℕ) (result : Result (Unit {0}) LogError) : Type 0 where

@@ -17,8 +17,7 @@ ghost use Rattle.gt_model.specs.Machine.{Pin, SettledEntry, opening, with_entry,
 ghost use Rattle.gt_sound.specs.Sound.{IsSoundState};
 ghost use Rattle.gt_table.specs.Table.{HasRoomFor, front, content};
 ghost use Rattle.gt_table.proofs.Rooms.{room_for};
-ghost use Rattle.gt_base.specs.Held.{HoldsPacks};
-ghost use Rattle.gt_journal.specs.Ledger.{Stored, state_of, ground, changed, front_of, doubt_after};
+ghost use Rattle.gt_journal.specs.Ledger.{Stored, Remembers, state_of, ground, changed, front_of, doubt_after, known};
 ghost use Rattle.gt_journal.specs.Histories.{IsGood, Moves, Settling};
 ghost use Rattle.gt_journal.specs.Loading.{Opens, IsNumbered, HasAddCause};
 
@@ -32,15 +31,15 @@ use gt_table::Table;
 use std::alloc::Global;
 use std::marker::Model;
 
-/// The log of a disk past its base, its entries and contents in memory, and the entry in doubt, which fits and for which there
-/// is room.
+/// The log of a disk past the base that was opened, its entries and contents in memory, and the entry in doubt, which fits and
+/// for which there is room; the manifest up to which entries are applied, and the next free file number.
 #[derive(Drop)]
 pub struct Journal {
     log: Log,
-    base: Base,
-    table: Table,
+    pub(crate) base: Base,
+    pub(crate) table: Table,
     doubt: Option<Entry>,
-    next: u64,
+    pub(crate) next: u64,
     ghost counts: { log.len ≡ front table.past },
     ghost doubts: { log.in_doubt ≡ is_some doubt },
     ghost built: { ForSome doubt IsBuilt },
@@ -51,10 +50,13 @@ pub struct Journal {
 
 impl Model for Journal {
     ghost use Rattle.gt_journal.specs.Ledger.{Ledger};
+    ghost use Rattle.gt_journal.specs.Carried.{IsMemory};
 
     ghost Value = { Ledger };
 
-    ghost view = { λ j. record { past = j.table.past; doubt = j.doubt; epoch = j.base.manifest.epoch; manifest_next = j.base.manifest.next; next = j.next } };
+    ghost invariant = { λ j. IsMemory (record { past = j.table.past; doubt = j.doubt; base = j.base; next = j.next }) };
+
+    ghost view = { λ j. record { past = j.table.past; doubt = j.doubt; base = j.base; next = j.next } };
 }
 
 impl Journal {
@@ -69,6 +71,8 @@ impl Journal {
         // Over a disk that tells it opens exactly what the files recover to, or names the first damage.
         ensures answer { IsTrue D.tells → Opens (recover limits.now (D.view disk.old).reads) result }
         ensures settled { IfOk result (λ j. j.doubt ≡ None) }
+        ensures flat { IfOk result (λ j. j.base.doubt ≡ None) }
+        ensures unapplied { IfOk result (λ j. j.base.manifest.applied ≡ j.past.begin) }
         ensures numbered { IfOk result IsNumbered }
         ensures cause { HasCause (D.fault_count disk.old) (D.fault_count disk.new) result }
         ensures gate { IsTrue D.tells → limits.now.positions < content_length ((D.view disk.old).reads gate_file)
@@ -82,7 +86,7 @@ impl Journal {
         // A disk that may be handed in may be handed in again at each moment, and has what is opened.
         ensures good { IsTrue D.tells → IsGood limits.now (now (D.view disk.old)) → Since (IsGood limits.now) (D.view disk.old) (D.view disk.new) }
         ensures good_end { IsTrue D.tells → IsGood limits.now (now (D.view disk.old)) → IsGood limits.now (now (D.view disk.new)) }
-        ensures stored { IsTrue D.tells → IsGood limits.now (now (D.view disk.old)) → IfOk result (λ j. Stored limits.now (opening (ground j)) (now (D.view disk.new)) × IsSoundState (opening (ground j)) × HoldsPacks j.past.repos (now (D.view disk.new))) }
+        ensures stored { IsTrue D.tells → IsGood limits.now (now (D.view disk.old)) → IfOk result (λ j. Stored limits.now (opening (ground j)) (now (D.view disk.new)) × IsSoundState (opening (ground j)) × Remembers j (now (D.view disk.new))) }
     {
         let Ok(log) = Log::mount(disk) else {
             return Err(MountCause::DeviceFault);
@@ -113,7 +117,7 @@ impl Journal {
         ensures in_doubt { OnErr result (IsTrue (is_some self.old.doubt)) }
         ensures settled { OnOk result (self.new.doubt ≡ None) }
         ensures begin { self.new.past.begin ≡ self.old.past.begin }
-        ensures repos { self.new.past.repos ≡ self.old.past.repos }
+        ensures known { known self.new ≡ known self.old }
         ensures longer { front_of self.old ≤ front_of self.new }
         ensures same { OnErr result (self.new ≡ self.old) }
         ensures idle { self.old.doubt ≡ None → disk.new ≡ disk.old }
@@ -159,7 +163,7 @@ impl Journal {
         ensures ok { OnOk result (self.new ≡ changed self.old (self.old.past.log ++ entry ∷ []) None) }
         ensures err { IfErr result (λ e. self.new ≡ changed self.old self.old.past.log (doubt_after e entry)) }
         ensures begin { self.new.past.begin ≡ self.old.past.begin }
-        ensures repos { self.new.past.repos ≡ self.old.past.repos }
+        ensures known { known self.new ≡ known self.old }
         ensures longer { front_of self.old ≤ front_of self.new }
         ensures cause { HasAddCause (D.fault_count disk.old) (D.fault_count disk.new) result }
         ensures later { (D.view disk.old).clock ≤ (D.view disk.new).clock }

@@ -9,7 +9,7 @@ ghost use Rattle.gt_objset.specs.declared.place.Place.{Place};
 ghost use Rattle.gt_places.specs.Reading.{piece, IsRecordOf};
 ghost use Rattle.gt_base.specs.Held.{HoldsPacks};
 ghost use Rattle.gt_table.specs.Table.{content_at, place_at};
-ghost use Rattle.gt_journal.specs.Ledger.{Ledger, StoredBy, ground};
+ghost use Rattle.gt_journal.specs.Ledger.{Ledger, HasLog, ground};
 ghost use Rattle.gt_journal.specs.Histories.{IsGood};
 
 /// What a stop leaves of a disk that may be handed in may be handed in itself.
@@ -25,8 +25,8 @@ pub fn empty_disks_are_good()
 /// Whatever a stop leaves of files that have a sound base and its log holds, at the place of each object that is seen at a
 /// position, the record that is found there, which is one of that name.
 pub fn placed_records_are_held()
-    ensures held { (limits : Limits) (l : Ledger) (states : States) (image : Files) (position : ℕ) (path name whole : List ℕ) (place : Place) → l.past.begin + 1 + length l.past.log ≤ 2 ^ 64 → StoredBy limits (ground l) l.doubt states → HoldsPacks l.past.repos states → IsSoundState (opening (ground l)) → IsImage states image
+    ensures held { (l : Ledger) (states : States) (image : Files) (position : ℕ) (path name whole : List ℕ) (place : Place) → l.past.begin + 1 + length l.past.log ≤ 2 ^ 64 → HasLog l states → HoldsPacks l.past.repos states → IsSoundState (opening (ground l)) → IsImage states image
         → place_at l.past position path name ≡ Some place → found (content_at l.past position) path name ≡ Some whole → piece (image place.file) place ≡ whole }
-    ensures good { (limits : Limits) (l : Ledger) (states : States) (image : Files) (position : ℕ) (path name whole : List ℕ) (place : Place) → l.past.begin + 1 + length l.past.log ≤ 2 ^ 64 → StoredBy limits (ground l) l.doubt states → HoldsPacks l.past.repos states → IsSoundState (opening (ground l)) → IsImage states image
+    ensures good { (l : Ledger) (states : States) (image : Files) (position : ℕ) (path name whole : List ℕ) (place : Place) → l.past.begin + 1 + length l.past.log ≤ 2 ^ 64 → HasLog l states → HoldsPacks l.past.repos states → IsSoundState (opening (ground l)) → IsImage states image
         → place_at l.past position path name ≡ Some place → found (content_at l.past position) path name ≡ Some whole → IsRecordOf name whole }
 {}

@@ -1,4 +1,4 @@
-ghost use Rattle.std.specs.Prelude.{◌≡◌, ◌≤◌, ◌<◌, ◌+◌, ◌-◌, length, Err, Some, IsTrue, IfOk};
+ghost use Rattle.std.specs.Prelude.{◌≡◌, ◌≤◌, ◌<◌, ◌+◌, ◌-◌, length, Err, Some, None, IsTrue, IfOk};
 ghost use Rattle.gt_base.specs.Answers.{HasCause, Reads};
 ghost use Rattle.gt_base.specs.Built.{is_built, IsBuilt};
 ghost use Rattle.gt_base.specs.Entries.{entry_of as entry_at, entries_in};
@@ -11,12 +11,16 @@ ghost use Rattle.gt_log.specs.Log.{content_length};
 ghost use Rattle.gt_log.specs.declared.mount_cause.MountCause.{MountCause};
 ghost use Rattle.gt_model.specs.Batches.{next_past};
 ghost use Rattle.gt_model.specs.Contents.{fits};
+ghost use Rattle.gt_apply.specs.Fitting.{HasGoodPools};
 ghost use Rattle.gt_entry.specs.Answers as answers;
+ghost use Rattle.gt_entry.specs.Fits.{IsEntry, HasSpelling};
 ghost use Rattle.gt_reading.specs.Reading.{run};
 ghost use Rattle.gt_table.specs.Table.{front, content};
+ghost use Rattle.gt_journal.specs.Carried.{IsLogged, IsCarried};
 ghost use Rattle.gt_journal.specs.Loading.{Loads, LoadsAll, in_file};
 
 use crate::spelling::decode;
+use gt_applied::bases_list_their_repositories;
 use gt_base::{Base, BaseContent, is_built};
 use gt_disk::{Disk, DiskError, GATE, entry_file};
 use gt_entry::EntryError;
@@ -38,12 +42,17 @@ pub(crate) fn load<D: Disk>(
     ensures begin { IfOk result (λ x. x.1.past.begin ≡ x.0.manifest.applied) }
     ensures numbered { IfOk result (λ x. x.2 ≡ next_past x.0.manifest.next x.1.past.log) }
     ensures count { IfOk result (λ x. log.now.len ≡ front x.1.past) }
+    ensures settled { IfOk result (λ x. x.0.doubt ≡ None) }
+    ensures logged { IfOk result (λ x. IsLogged x.1.past) }
+    ensures carried { IfOk result (λ x. IsCarried x.1.past x.2 x.0.manifest) }
     ensures reads { IsTrue D.tells → (D.view disk.new).reads ≡ (D.view disk.old).reads }
     ensures moments { IsTrue D.tells → Narrows (D.view disk.old) (D.view disk.new) }
     ensures run { IsTrue D.tells → Runs turn_file (Lasting (now (D.view disk.old) turn_file) ((D.view disk.old).reads turn_file)) (D.view disk.old) (D.view disk.new) }
     ensures turn { IsTrue D.tells → IfOk result (λ _. now (D.view disk.new) turn_file ≡ still ((D.view disk.old).reads turn_file)) }
     ensures loads { IsTrue D.tells → log.now.len ≡ content_length ((D.view disk.old).reads gate_file) → LoadsAll (run (D.view disk.old).reads (recovery limits.now)) result }
 {
+    // laws, which do nothing
+    bases_list_their_repositories();
     let gate = log.len();
     if gate > limits.positions {
         return Err(MountCause::Damaged {
@@ -72,13 +81,15 @@ fn read_entries<D: Disk>(
     first_free: u64,
     repos: &BaseContent,
 ) -> Result<(Table, u64), MountCause>
-    requires { begin ≤ log.now.len }
+    requires begin { begin ≤ log.now.len }
+    requires pools { HasGoodPools (content_of repos.now) }
     ensures quiet { IsTrue D.tells → Quiet (D.view disk.old) (D.view disk.new) }
     ensures later { (D.view disk.old).clock ≤ (D.view disk.new).clock }
     ensures cause { HasCause (D.fault_count disk.old) (D.fault_count disk.new) result }
     ensures begin { IfOk result (λ x. x.0.past.begin ≡ begin) }
     ensures repos { IfOk result (λ x. x.0.past.repos ≡ repos.now) }
     ensures count { IfOk result (λ x. log.now.len ≡ front x.0.past) }
+    ensures logged { IfOk result (λ x. IsLogged x.0.past) }
     ensures numbered { IfOk result (λ x. x.1 ≡ next_past first_free x.0.past.log) }
     ensures loads { IsTrue D.tells → Loads (run (D.view disk.old).reads (entries_in (content_of repos.now) (begin + 1) (log.now.len - begin))) result }
 {
@@ -113,6 +124,8 @@ fn read_entry<D: Disk>(
     ensures later { (D.view disk.old).clock ≤ (D.view disk.new).clock }
     ensures cause { HasCause (D.fault_count disk.old) (D.fault_count disk.new) result }
     ensures built { IfOk result IsBuilt }
+    ensures typed { IfOk result IsEntry }
+    ensures spelled { IfOk result HasSpelling }
     ensures next { IfOk result (λ entry. entry.position ≡ number) }
     ensures fit { IfOk result (λ entry. IsTrue (fits (content table.now.past) entry)) }
     ensures entry { IsTrue D.tells → Reads (in_file (entry_file number) (entry_at ((D.view disk.old).reads (entry_file number)) (content table.now.past) number)) result }
@@ -142,6 +155,8 @@ fn damaged(number: u64, at: usize) -> MountCause
 /// The entry at a position that these bytes spell, of a kind that is built, where it fits.
 fn fitting(alloc: Global, table: &Table, number: u64, bytes: &[u8]) -> Result<Entry, EntryError>
     ensures built { IfOk result IsBuilt }
+    ensures typed { IfOk result IsEntry }
+    ensures spelled { IfOk result HasSpelling }
     ensures next { IfOk result (λ entry. entry.position ≡ number) }
     ensures fit { IfOk result (λ e. IsTrue (fits (content table.now.past) e)) }
     ensures entry { answers.Reads result (entry_at (Some bytes.now) (content table.now.past) number) }

@@ -4,7 +4,7 @@ ghost use Rattle.gt_disk.specs.Moments.{Since};
 ghost use Rattle.gt_log.specs.declared.log_error.LogError.{LogError};
 ghost use Rattle.gt_log.specs.Log.{Stands, AddMoment, AfterAdd, leaves_doubt, HasLogCause};
 ghost use Rattle.gt_entry.specs.Answers.{Reads};
-ghost use Rattle.gt_entry.specs.Fits.{HasSpelling};
+ghost use Rattle.gt_entry.specs.Fits.{IsEntry, HasSpelling};
 ghost use Rattle.gt_base.specs.Built.{IsBuilt};
 ghost use Rattle.gt_base.specs.Spelling.{encode, decode, IsSpelled};
 
@@ -18,6 +18,8 @@ use std::alloc::Global;
 pub(crate) fn decode(alloc: Global, position: u64, bytes: &[u8]) -> Result<Entry, EntryError>
     ensures entry { Reads result (decode position (Some bytes.now)) }
     ensures next { IfOk result (λ entry. entry.position ≡ position) }
+    ensures typed { IfOk result IsEntry }
+    ensures fits { IfOk result HasSpelling }
 {
     let entry = decode_entry(alloc, bytes)?;
     if entry.position == position {
@@ -39,6 +41,7 @@ pub(crate) fn add_entry<D: Disk>(
     requires built { IsBuilt entry.now }
     requires spelling { HasSpelling entry.now }
     ensures spelled { (result ≡ Err LogError.Memory) ⊎ IsSpelled entry.now }
+    ensures typed { (result ≡ Err LogError.Memory) ⊎ IsEntry entry.now }
     ensures ok { IfOk result (λ n. (n ≡ log.old.len + 1) × (log.new.len ≡ n)) }
     ensures err { OnErr result (log.new.len ≡ log.old.len) }
     ensures doubt { log.new.in_doubt ≡ leaves_doubt result }

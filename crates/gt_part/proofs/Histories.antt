@@ -1,7 +1,7 @@
 -- How a partition's history goes on.
 use Rattle.std.proofs.Common.{◌≡◌, ◌⊎◌, inl, inr, ⊎_elim, ℕ, ◌+◌, ◌<◌, ◌≤◌, List, [], ◌∷◌, ◌++◌, length, length-append, Option, Some, None, Result, Ok, Err, refl, sym, ◌∙◌, ap, subst, arith, IsTrue, append_assoc, IfOk, IfErr, ◌-◌, ◌^◌, min, Bool, true, false}
 use Rattle.std.specs.Prelude.{if◌then◌else◌}
-use Rattle.std.specs.List.{AllByRecursion}
+use Rattle.std.specs.Option.{option_map}
 use Rattle.std.proofs.lemmas.Bool.{cases_lt}
 use Rattle.gt_disk.specs.Files.{View, now, IsImage, Rose}
 use Rattle.gt_disk.specs.Moments.{Since, Narrows}
@@ -16,12 +16,9 @@ use Rattle.gt_sound.proofs.Logs.{log_sound, sound_line, sound_state}
 use Rattle.gt_history.specs.Runs.{KeepsPast}
 use Rattle.gt_history.proofs.Safe.{same_ok}
 use Rattle.gt_history.proofs.Runs as runs
-use Rattle.gt_base.specs.declared.held.BaseRepo.{BaseRepo}
-use Rattle.gt_base.specs.Packs.{PackFile}
 use Rattle.gt_base.specs.Recovery.{recover, Keeps, counters}
 use Rattle.gt_table.specs.Table.{base}
-use Rattle.gt_base.specs.Held.{HoldsPack, HoldsPacks}
-use Rattle.gt_journal.specs.Ledger.{Ledger, StoredBy, Stored, KeepsPacks, state_of, ground}
+use Rattle.gt_journal.specs.Ledger.{Ledger, HasLog, Stored, applying, state_of, ground}
 use Rattle.gt_journal.specs.Loading.{IsNumbered}
 use Rattle.gt_journal.specs.Histories.{IsGood, Gives, Holds, IsHistory}
 use Rattle.gt_journal.proofs.Images.{recovered_legal, stored_gives}
@@ -52,8 +49,11 @@ continues view start begin history P later old p limits this past run = record {
 
 -- the files have the log that is in memory, and its contents are sound
 module _ {D : Type 0} (view : D → View) (start : State) (begin : ℕ) (history : List Happening) (p : Shown D) (run : HasRun view start begin history p) where
-  pub run_stored : StoredBy p.limits (ground p.ledger) p.ledger.doubt (now (view p.disk))
-  run_stored = (subst (λ (s : State). Stored p.limits s (now (view p.disk))) (sym run.0) run.1.stored).by
+  whole_stored : Stored p.limits (memory p) (now (view p.disk))
+  whole_stored = subst (λ (s : State). Stored p.limits s (now (view p.disk))) (sym run.0) run.1.stored
+
+  pub run_stored : HasLog p.ledger (now (view p.disk))
+  run_stored = record { files = whole_stored.files; legal = whole_stored.legal }
 
   pub run_sound : IsSoundState (opening (ground p.ledger))
   run_sound =
@@ -61,7 +61,7 @@ module _ {D : Type 0} (view : D → View) (start : State) (begin : ℕ) (history
       sound_state (opening (ground p.ledger)) (log_sound (base p.ledger.past) p.ledger.past.log p.ledger.doubt (sound_line (memory p) sound))
 
   pub run_few : p.limits.positions < 2 ^ 64 → p.ledger.past.begin + 1 + length p.ledger.past.log ≤ 2 ^ 64
-  run_few most = by p.ledger.past.log p.ledger.doubt run_stored.within
+  run_few most = by p.ledger.past.log p.ledger.doubt whole_stored.within
     where
       by : (log : List Entry) (doubt : Option Entry) → p.ledger.past.begin + length (with_doubt log doubt) ≤ p.limits.positions → p.ledger.past.begin + 1 + length log ≤ 2 ^ 64
       by log None le = omega (arith, le, most)
@@ -147,21 +147,18 @@ counts_more first before now trail new turn is later rose counts =
 
 -- ---- the first opening
 
-pub opened_stands : (l : Ledger) (pins : List Pin) → l.doubt ≡ None → pins ≡ [] → IsNumbered l → state_of l pins ≡ opening (ground l)
-opened_stands l pins clear empty numbered = λ i. record (opening (ground l)) { doubt = clear i; pins = empty i; next = numbered i }
+-- nothing is in doubt, and nothing past the base has been applied
+pub record IsFresh (l : Ledger) : Type 0 where
+  pub clear : l.doubt ≡ None
+  pub flat : l.base.doubt ≡ None
+  pub unapplied : l.base.manifest.applied ≡ l.past.begin
+  pub numbered : IsNumbered l
 
-pub first_run : (limits : Limits) (x : View) (l : Ledger) (pins : List Pin) (trail : List Turn) → l.doubt ≡ None → pins ≡ [] → IsNumbered l → trail ≡ [] → Stored limits (opening (ground l)) (now x) → IsSoundState (opening (ground l)) → IsHistory limits (state_of l pins) x.clock [] x trail
-first_run limits x l pins trail clear empty numbered fresh stored sound =
-    subst (λ (t : List Turn). IsHistory limits (state_of l pins) x.clock [] x t) (sym fresh)
-    (subst (λ (s : State). IsHistory limits s x.clock [] x []) (sym (opened_stands l pins clear empty numbered))
+pub opened_stands : (l : Ledger) (pins : List Pin) → IsFresh l → pins ≡ [] → state_of l pins ≡ opening (ground l)
+opened_stands l pins fresh empty = λ i. record (opening (ground l)) { doubt = fresh.clear i; pins = empty i; applied = fresh.unapplied i; turning = option_map applying (fresh.flat i); next = fresh.numbered i }
+
+pub first_run : (limits : Limits) (x : View) (l : Ledger) (pins : List Pin) (trail : List Turn) → IsFresh l → pins ≡ [] → trail ≡ [] → Stored limits (opening (ground l)) (now x) → IsSoundState (opening (ground l)) → IsHistory limits (state_of l pins) x.clock [] x trail
+first_run limits x l pins trail fresh empty none stored sound =
+    subst (λ (t : List Turn). IsHistory limits (state_of l pins) x.clock [] x t) (sym none)
+    (subst (λ (s : State). IsHistory limits s x.clock [] x []) (sym (opened_stands l pins fresh empty))
     (runs.first_opened (recover limits) (Keeps limits) counters (recovered_legal limits) (Stored limits) (stored_gives limits) limits x (ground l) stored sound))
-
--- ---- packs
-
-packs_still : (packs : List PackFile) (v w : View) → KeepsPacks v w → AllByRecursion (HoldsPack (now v)) packs → AllByRecursion (HoldsPack (now w)) packs
-packs_still [] v w keeps held = tt
-packs_still (p ∷ packs) v w keeps held = (keeps p.number ∙ held.0, packs_still packs v w keeps held.1)
-
-pub packs_kept : (repos : List BaseRepo) (v w : View) → KeepsPacks v w → HoldsPacks repos (now v) → HoldsPacks repos (now w)
-packs_kept [] v w keeps held = tt
-packs_kept (r ∷ repos) v w keeps held = (packs_still r.packs v w keeps held.0, packs_kept repos v w keeps held.1)

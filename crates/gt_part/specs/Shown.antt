@@ -12,8 +12,7 @@ use Rattle.gt_model.specs.declared.who.Who.{Who}
 use Rattle.gt_model.specs.Machine.{State, Pin, Step, front, is_faulty}
 use Rattle.gt_model.specs.Histories.{Happening, event, opened, kept, last_state}
 use Rattle.gt_history.specs.Runs.{KeepsPast}
-use Rattle.gt_base.specs.Held.{HoldsPacks}
-use Rattle.gt_journal.specs.Ledger.{Ledger, state_of}
+use Rattle.gt_journal.specs.Ledger.{Ledger, Remembers, state_of}
 use Rattle.gt_journal.specs.Histories.{IsGood, Holds, IsHistory}
 
 -- its number, its disk, its limits, its log in memory, what is live, and the trail: the references at this opening, and the records of the events since
@@ -42,9 +41,9 @@ pins_of p = p.live
 abbrev pub front_of : {D : Type 0} → Shown D → ℕ
 front_of p = front (memory p)
 
--- The partition has this history, whose last state its memory stands for; the files have that state now, and the packs of its base as they were read.
+-- The partition has this history, whose last state its memory stands for; the files have that state now, and what memory knows of them beside it.
 abbrev pub HasRun : {D : Type 0} → (D → View) → State → ℕ → List Happening → Shown D → Type 0
-HasRun view start begin history p = Stands p (last_state start history) × IsHistory p.limits start begin history (view p.disk) p.trail × HoldsPacks p.ledger.past.repos (now (view p.disk))
+HasRun view start begin history p = Stands p (last_state start history) × IsHistory p.limits start begin history (view p.disk) p.trail × Remembers p.ledger (now (view p.disk))
 
 -- The history goes on by this, and holds on the disk, which may be handed in again.
 pub record Continues {D : Type 0} (view : D → View) (start : State) (begin : ℕ) (history : List Happening) (IsThis : List Happening → Type 0) (old new : Shown D) : Type 0 where

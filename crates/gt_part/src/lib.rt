@@ -2,6 +2,7 @@
 //! read it, and the trail of its events.
 #![tactic(auto)]
 
+mod applying;
 mod changing;
 mod noting;
 mod partition;

@@ -1,5 +1,5 @@
 -- What every call keeps a line keeps, and a session's own answers blame no disk and name no position.
-use Rattle.std.proofs.Common.{◌≡◌, inl, inr, ℕ, ◌≤◌, Bool, true, false, IsTrue, List, [], ◌∷◌, ◌++◌, length, Option, Some, None, Result, Ok, Err, refl, sym, ap, subst, arith}
+use Rattle.std.proofs.Common.{◌≡◌, inl, inr, ℕ, ◌≤◌, Bool, true, false, cond, IsTrue, List, [], ◌∷◌, ◌++◌, length, Option, Some, None, Result, Ok, Err, refl, sym, ap, subst, arith}
 use Rattle.gt_name.specs.Paths.{bad_path}
 use Rattle.gt_name.specs.References.{bad_ref}
 use Rattle.gt_object.specs.declared.kind.Kind.{Kind}
@@ -21,7 +21,7 @@ use Rattle.gt_script.specs.declared.form.Form.TheVariants as line
 use Rattle.gt_stage.specs.Staging.{Holding, own_ref, own_record, is_over_refs, is_over_bytes, staged_set, staged_check, staged_put}
 use Rattle.gt_prog.specs.Lines.{names_damage}
 use Rattle.gt_session.specs.Sessions.{Open, Session, seen_of}
-use Rattle.gt_session.specs.Courses.{Turned, Course, refuses, alone, finds, asks, reads, assign, ask, course, with_path, with_ref, with_open, unless_open, with_old, old_in, staged, put, put_record, set, check, get, cat, value_of, content_of, refusal_of, list_in}
+use Rattle.gt_session.specs.Courses.{Turned, Course, refuses, alone, finds, asks, reads, assign, ask, course, with_path, with_ref, with_open, unless_open, with_old, old_in, staged, put, put_record, set, check, get, cat, value_of, content_of, refusal_of, list_in, can_apply}
 use Rattle.gt_session.specs.Calls.{Takes, Makes, Does, GivesUp}
 use Rattle.gt_session.specs.Together.{Requests, GiveUp}
 use Rattle.gt_prog.specs.One.{Mapped}
@@ -132,6 +132,10 @@ module _ (s : Session) where
   list_faultless o prefix (done.Refs list) = record { sure = refl; whole = refl; named = omega arith }
   list_faultless o prefix d = done_within (done_position d) d (omega arith)
 
+  apply_faultless : (partition n : ℕ) (can : Bool) → IsEachFaultless (cond can (Some (asks partition (event.Apply n))) None)
+  apply_faultless partition n true = tt
+  apply_faultless partition n false = tt
+
   course_faultless : (form : Form) → IsEachFaultless (course s form)
   course_faultless (line.Create path None) = path_faultless path (finds path (assign None) (λ p. event.Create path false)) tt
   course_faultless (line.Delete path) = path_faultless path (finds path ask (λ p. event.Delete path)) tt
@@ -148,6 +152,7 @@ module _ (s : Session) where
   course_faultless (line.Cat name) = open_faultless (λ o. cat s o name) (λ o. cat_faultless o name)
   course_faultless line.Commit = open_faultless (λ o. asks o.partition (event.Commit o.pin o.stage.staged.refs o.stage.staged.records)) (λ o. tt)
   course_faultless line.Abort = open_faultless (λ o. asks o.partition (event.Abort o.pin)) (λ o. tt)
+  course_faultless (line.Apply partition n) = apply_faultless partition n (can_apply partition n)
   course_faultless form = tt
 
 -- ---- what a line keeps

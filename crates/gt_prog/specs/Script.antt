@@ -5,6 +5,7 @@ use Rattle.gt_script.specs.declared.form.Form.{Form}
 use Rattle.gt_script.specs.declared.form.Form.TheVariants as forms
 use Rattle.gt_script.specs.declared.request.Request.{Request}
 use Rattle.gt_script.specs.Grammar.{request_of}
+use Rattle.gt_session.specs.Courses.{can_apply}
 
 -- ---- lines
 
@@ -40,7 +41,7 @@ abbrev pub requests_of : ℕ → List (List ℕ) → Result (List Request) (ℕ 
 requests_of number [] = Ok []
 requests_of number (line ∷ lines) = and_then number (request_of line) (requests_of (number + 1) lines)
 
--- whether a form of line is built
+-- whether a line of this form is built
 abbrev pub is_built : Form → Bool
 is_built (forms.Create path None) = true
 is_built (forms.Delete path) = true
@@ -53,6 +54,7 @@ is_built (forms.List prefix) = true
 is_built (forms.Cat name) = true
 is_built forms.Commit = true
 is_built forms.Abort = true
+is_built (forms.Apply partition n) = can_apply partition n
 is_built forms.Restart = true
 is_built form = false
 

@@ -129,4 +129,8 @@ impl<D: Disk + Drop> Parts for Local<D> {
     fn abort(&mut self, partition: u8, who: Who, pass: Pin) -> Answer {
         self.partition.abort(who, pass)
     }
+
+    fn apply(&mut self, alloc: Global, partition: u8, who: Who, n: u32) -> Answer {
+        self.partition.apply(alloc, who, n)
+    }
 }

@@ -18,7 +18,7 @@ pub enum ScriptError {
     Memory,
 }
 
-/// Whether lines of this form are done.
+/// Whether a line of this form is done.
 fn is_built(form: &Form) -> bool
     ensures { result ≡ is_built form.now }
 {
@@ -35,6 +35,10 @@ fn is_built(form: &Form) -> bool
             | Form::Cat { .. }
             | Form::Commit
             | Form::Abort
+            | Form::Apply {
+                partition: 1,
+                n: 1..=16
+            }
             | Form::Restart
     )
 }

@@ -1,3 +1,4 @@
+pub mod ApplyLaws
 pub mod CourseLaws
 pub mod Mapping
 pub mod NumberLaws

@@ -19,7 +19,7 @@ use Rattle.gt_script.specs.declared.form.Form.{Form}
 use Rattle.gt_script.specs.declared.form.Form.TheVariants as line
 use Rattle.gt_stage.specs.Staging.{Holding, own_ref, own_record, is_over_refs, is_over_bytes, staged_set, staged_check, staged_put}
 use Rattle.gt_session.specs.Sessions.{Open, Session, forgotten, seen_of, told}
-use Rattle.gt_session.specs.Courses.{Turned, Course, MapEvent, ask, assign, alone, finds, asks, reads, refuses, with_path, with_ref, staged, put_record, refusal_of, put, set, check, old_in, with_old, value_of, get, list_in, cat, content_of, course, after_event}
+use Rattle.gt_session.specs.Courses.{Turned, Course, MapEvent, ask, assign, alone, finds, asks, reads, refuses, with_path, with_ref, staged, put_record, refusal_of, put, set, check, old_in, with_old, value_of, get, list_in, cat, content_of, can_apply, course, after_event}
 use Rattle.gt_session.specs.Calls.{Takes, Makes, Answers, Follows, Does}
 
 -- ---- a course that leaves the number
@@ -84,6 +84,10 @@ abbrev KeepsIf : Session → Option Course → Type 0
 KeepsIf s None = Unit {0}
 KeepsIf s (Some c) = Keeps s c
 
+apply_keeps : (s : Session) (partition n : ℕ) (can : Bool) → KeepsIf s (cond can (Some (asks partition (event.Apply n))) None)
+apply_keeps s partition n true = tt
+apply_keeps s partition n false = tt
+
 course_keeps : (s : Session) (form : Form) → KeepsIf s (course s form)
 course_keeps s (line.Create path None) = path_keeps s (bad_path path) (finds path (assign None) (λ p. event.Create path false)) tt
 course_keeps s (line.Delete path) = path_keeps s (bad_path path) (finds path ask (λ p. event.Delete path)) tt
@@ -101,6 +105,7 @@ course_keeps s (line.List prefix) = open_keeps s s.open (λ o. reads o.partition
 course_keeps s (line.Cat name) = open_keeps s s.open (λ o. cat s o name) (λ o. cat_keeps s o name (own_record o.stage.staged.records name))
 course_keeps s line.Commit = open_keeps s s.open (λ o. asks o.partition (event.Commit o.pin o.stage.staged.refs o.stage.staged.records)) (λ o. tt)
 course_keeps s line.Abort = open_keeps s s.open (λ o. asks o.partition (event.Abort o.pin)) (λ o. tt)
+course_keeps s (line.Apply partition n) = apply_keeps s partition n (can_apply partition n)
 course_keeps s form = tt
 
 -- ---- the session after a call

@@ -1,5 +1,5 @@
 -- What a line of a session comes to: an answer of its own, or a call of a partition.
-use Rattle.std.specs.Prelude.{ℕ, Bool, true, false, List, [], ◌++◌, length, map as map_list, Option, Some, None, Result, Ok, Err, codes, bytes_eq, if◌then◌else◌}
+use Rattle.std.specs.Prelude.{ℕ, Bool, true, false, nat_eq, nat_le, ◌&&◌, List, [], ◌++◌, length, map as map_list, Option, Some, None, Result, Ok, Err, codes, bytes_eq, if◌then◌else◌}
 use Rattle.std.specs.FinMap as map
 use Rattle.hex.specs.Hex.{decode_of}
 use Rattle.hex.specs.declared.error.FromHexError.{FromHexError}
@@ -127,9 +127,15 @@ list_in s o prefix done = (Ok done, s)
 abbrev pub cat : Session → Open → List ℕ → Course
 cat s o name = elim (own_record o.stage.staged.records name) [ Some whole ↦ alone (Ok (Object whole), s) | None ↦ asks o.partition (event.Cat o.pin name) ]
 
+-- ---- an application of a log
+
+-- whether so many entries of a partition can be applied: 1 to 16, of the one partition that is there
+abbrev pub can_apply : ℕ → ℕ → Bool
+can_apply partition n = nat_eq partition 1 && nat_le 1 n && nat_le n 16
+
 -- ---- the whole
 
--- what a line of a session comes to; the forms that no session does yet have no course
+-- what a line of a session comes to; lines that no session does yet have no course
 abbrev pub course : Session → Form → Option Course
 course s (line.Create path None) = Some (with_path path (finds path (assign None) (λ p. event.Create path false)))
 course s (line.Delete path) = Some (with_path path (finds path ask (λ p. event.Delete path)))
@@ -142,9 +148,10 @@ course s (line.List prefix) = Some (with_open s (λ o. reads o.partition (event.
 course s (line.Cat name) = Some (with_open s (λ o. cat s o name))
 course s line.Commit = Some (with_open s (λ o. asks o.partition (event.Commit o.pin o.stage.staged.refs o.stage.staged.records)))
 course s line.Abort = Some (with_open s (λ o. asks o.partition (event.Abort o.pin)))
+course s (line.Apply partition n) = if can_apply partition n then Some (asks partition (event.Apply n)) else None
 course s form = None
 
--- whether a form has a course
+-- whether a line of this form has a course
 abbrev pub has_course : Form → Bool
 has_course (line.Create path None) = true
 has_course (line.Delete path) = true
@@ -157,6 +164,7 @@ has_course (line.List prefix) = true
 has_course (line.Cat name) = true
 has_course line.Commit = true
 has_course line.Abort = true
+has_course (line.Apply partition n) = can_apply partition n
 has_course form = false
 
 -- ---- after a call of a partition

@@ -1,6 +1,7 @@
 //! The sessions of a script: what their lines come to, over any partitions.
 #![tactic(auto)]
 
+mod applying;
 mod laws;
 mod listing;
 mod looking;

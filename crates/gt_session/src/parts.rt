@@ -1,5 +1,5 @@
 // The partitions and the map of paths, as a session sees them.
-ghost use Rattle.std.specs.Prelude.{◌≡◌, ◌∷◌, [], ℕ, List, Option, Result, Some, None, Ok, Err, true, false, IfSome, IfOk, IfErr};
+ghost use Rattle.std.specs.Prelude.{◌≡◌, ◌≤◌, ◌∷◌, [], ℕ, List, Option, Result, Some, None, Ok, Err, true, false, IfSome, IfOk, IfErr};
 ghost use Rattle.std.specs.Option.{option_map};
 ghost use Rattle.std.specs.List.{IsAmong};
 ghost use Rattle.gt_model.specs.declared.done.Done.{Done};
@@ -154,4 +154,12 @@ pub trait Parts {
         ensures aborted { result ≡ Ok Done.Aborted }
         ensures did { did partition who (Event.Abort (Self.Pass.number pass)) result None self.old self.new }
         ensures live { live self.new ≡ ended (live self.old) partition (Self.Pass.number pass) };
+
+    /// Applies the next entries of a partition's log, as many as this at most.
+    fn apply(&mut self, alloc: Global, partition: u8, who: Who, n: u32) -> Answer
+        requires one { partition ≡ 1 }
+        requires some { 1 ≤ n }
+        requires most { n ≤ 16 }
+        ensures did { did partition who (Event.Apply n) result None self.old self.new }
+        ensures live { live self.new ≡ live self.old };
 }

@@ -81,6 +81,7 @@ impl<T: Numbered> Session<T> {
             Form::Cat { name } => self.cat(alloc, parts, line, name),
             Form::Commit => self.commit(alloc, parts, line),
             Form::Abort => self.abort(parts, line),
+            Form::Apply { partition, n } => self.apply(alloc, parts, line, *partition, *n),
             _ => unreachable!(),
         }
     }

@@ -1,4 +1,4 @@
-use Rattle.std.proofs.Common.{refl, inl, List, length, sym, subst}
+use Rattle.std.proofs.Common.{refl, inl, List, sym, subst}
 use Rattle.gt_journal.specs.Ledger.{front_of}
 use Rattle.gt_model.specs.Machine.{Pin}
 use Rattle.gt_pins.specs.Live.{ReadIn}

@@ -1,4 +1,4 @@
-use Rattle.std.proofs.Common.{◌≡◌, false, List, length, sym, ap, subst, ◌∙◌}
+use Rattle.std.proofs.Common.{◌≡◌, false, List, sym, ap, subst, ◌∙◌}
 use Rattle.gt_journal.specs.Ledger.{front_of}
 use Rattle.gt_table.specs.Table.{content}
 use Rattle.gt_model.specs.Machine.{Pin, is_faulty, pin_of}

@@ -1,4 +1,4 @@
-use Rattle.std.proofs.Common.{arith, rules, ◌≡◌, true, false, refl, length, ap, ◌∙◌, not}
+use Rattle.std.proofs.Common.{arith, rules, ◌≡◌, true, false, refl, ap, ◌∙◌, not}
 use Rattle.gt_journal.specs.Ledger.{front_of}
 use Rattle.gt_model.specs.declared.event.Event.TheVariants.{Commit}
 use Rattle.gt_model.specs.Machine.{is_empty, is_live_as, is_transaction}

@@ -1,4 +1,4 @@
-use Rattle.std.proofs.Common.{arith, refl, length}
+use Rattle.std.proofs.Common.{arith, refl}
 use Rattle.gt_journal.specs.Ledger.{front_of}
 use Rattle.gt_model.specs.declared.event.Event.TheVariants.{Delete}
 use Rattle.gt_pins.proofs.Positions.{reads_later}

@@ -1,4 +1,4 @@
-use Rattle.std.proofs.Common.{◌≡◌, inl, inr, ⊎_elim, length, nat_eq, is_some, Option, Result, Ok, refl, sym, ap, subst, ◌∙◌}
+use Rattle.std.proofs.Common.{◌≡◌, inl, inr, ⊎_elim, nat_eq, is_some, Option, Result, Ok, refl, sym, ap, subst, ◌∙◌}
 use Rattle.gt_journal.specs.Ledger.{front_of}
 use Rattle.sha1.specs.Sha1.{sha1}
 use Rattle.gt_model.specs.declared.done.Done.{Done}

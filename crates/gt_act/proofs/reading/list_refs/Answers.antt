@@ -1,4 +1,4 @@
-use Rattle.std.proofs.Common.{◌≡◌, length, nat_eq}
+use Rattle.std.proofs.Common.{◌≡◌, nat_eq}
 use Rattle.gt_journal.specs.Ledger.{front_of}
 use Rattle.gt_model.specs.Machine.{Pin, pin_of as pin_in}
 use Rattle.gt_act.specs.PartitionState.{state_of}

@@ -1,6 +1,7 @@
 use Rattle.std.proofs.Common.{Ok, Err, arith, ◌∙◌}
 use Rattle.std.proofs.lemmas.Result.{err_from_is_err_and}
 use Rattle.gt_base.specs.Recovery.{repo_in}
+use Rattle.gt_base.proofs.Headings.{headings_next}
 use Rattle.gt_base.proofs.Lists.{list_next, list_blames, reads_before, quiet_join}
 use Rattle.gt_base.proofs.repos.read_repos.Goals as goal
 
@@ -18,4 +19,5 @@ repos-preserved g c = record {
   rest = λ told.
       let h = reads_before (repo_in c.files-item.result) (g.D.Disk.view c.args.disk.now) (g.D.Disk.view c.repos.disk) (Ok c.in_ok-repo.repo) (c.repos.invariant.quiet told) (c.in_ok-repo.ensures.answer told) in
       list_next repo_in (g.D.Disk.view c.args.disk.now).reads _ c.repos.repos c.args.all.now c.repos.files-index c.files-item.result c.repos-test.true c.files-item.is (c.repos.invariant.rest told) c.in_ok-repo.repo c.push.new.self h c.in_default.ensures.ok;
+  headings = headings_next c.repos.repos c.push.new.self c.args.all.now c.repos.files-index c.files-item.result c.in_ok-repo.repo c.repos-test.true c.files-item.is c.repos.invariant.headings c.in_ok-repo.ensures.heading c.in_default.ensures.ok;
 }

@@ -1,11 +1,12 @@
-use Rattle.std.proofs.Common.{refl, ◌≡◌, ◌+◌, ◌-◌, ◌++◌, [], ◌∷◌, List, ℕ, max, length, Ok, Err, length-append, ap, arith, ◌∙◌, sym, subst, Result}
+use Rattle.std.proofs.Common.{refl, ◌≡◌, ◌+◌, ◌-◌, ◌++◌, [], ◌∷◌, List, ℕ, max, length, Ok, Err, length-append, ap, arith, ◌∙◌, sym, subst}
 use Rattle.gt_base.specs.Held.{content_of}
 use Rattle.gt_disk.specs.Kinds.{entry_file}
 use Rattle.gt_model.specs.declared.entry.Entry.{Entry}
-use Rattle.gt_model.specs.Contents.{Content, after_all}
-use Rattle.gt_table.specs.Table.{Past, base, front, content}
+use Rattle.gt_table.specs.Table.{Past, base, content}
+use Rattle.gt_journal.specs.Carried.{IsLogged}
+use Rattle.gt_journal.proofs.Memory.{logged_push}
 use Rattle.gt_journal.proofs.ReadLog.{read_log, prepend, entries_are}
-use Rattle.gt_journal.proofs.LoadSteps.{load_start, load_more, load_unread, load_end, read_ok, here_now, quiet_join, next_more}
+use Rattle.gt_journal.proofs.LoadSteps.{load_more, load_unread, load_end, read_ok, here_now, quiet_join, next_more}
 use Rattle.gt_journal.proofs.loading.read_entries.Goals as goal
 
 pub returns-in-Err-clause-loads : goal.returns-in-Err-clause-loads
@@ -28,6 +29,7 @@ loop-n-preserved g c =
       begins = begin_is ∙ c.loop-n.invariant.begins;
       holds = repos_is ∙ c.loop-n.invariant.holds;
       counted = omega (arith, c.loop-n.invariant.counted, begin_is, ap (λ (l : List Entry). length l) log_is, length-append past.log (e ∷ []));
+      logged = subst IsLogged (sym items) (logged_push past e c.loop-n.invariant.logged (omega (arith, c.loop-n.invariant.counted, c.in-Ok-read_entry.ensures.next)) c.in-Ok-read_entry.ensures.fit c.in-Ok-read_entry.ensures.typed c.in-Ok-read_entry.ensures.spelled c.in-Ok-read_entry.ensures.built);
       numbers = c.max-next.ensures ∙ ap (λ (k : ℕ). max k 1) c.loop-n.invariant.numbers ∙ sym (next_more c.args.first_free past.log c.add.new.self.past.log e c.in-Ok-read_entry.ensures.built log_is);
       later = omega (arith, c.loop-n.invariant.later, c.read_entry.ensures.later);
       faults = c.in-Ok-read_entry.ensures.cause.others (λ is. absurd (cc (is))) ∙ c.loop-n.invariant.faults;

@@ -1,12 +1,25 @@
-use Rattle.std.proofs.Common.{◌≡◌, ◌++◌, ◌+◌, [], ◌∷◌, List, ℕ, length, refl, sym, map, ap, ◌∙◌, ⊎_elim, None, Some, Option, arith}
-use Rattle.gt_model.specs.declared.entry.Entry.{Entry}
-use Rattle.gt_model.specs.Machine.{State}
-use Rattle.gt_table.specs.Table.{Past, base, front}
+use Rattle.std.proofs.Common.{◌≡◌, ◌++◌, ◌+◌, [], ◌∷◌, refl, sym, map, ap, ◌∙◌, ⊎_elim, None, Some, arith, subst, IsTrue}
+use Rattle.gt_table.specs.Table.{Past, base, front, content}
 use Rattle.gt_base.specs.Spelling.{encode, IsSpelled}
-use Rattle.gt_journal.specs.Ledger.{Ledger, IsKept, state_of, changed}
+use Rattle.gt_journal.specs.Ledger.{Ledger, IsKept, state_of}
 use Rattle.gt_journal.proofs.Moves.{ledger_is, moves_as, moves_done, moves_unsure, moves_not, counted}
+use Rattle.gt_journal.proofs.Memory.{memory_push}
 use Rattle.gt_journal.proofs.Recovering.{kept_push}
+use Rattle.gt_journal.specs.Carried.{IsMemory}
+use Rattle.gt_entry.specs.Fits.{IsEntry}
+use Rattle.gt_model.specs.Contents.{fits}
 use Rattle.gt_journal.proofs.journal.Journal.add.Goals as goal
+
+pub invariant_of-self-in-Ok : goal.invariant_of-self-in-Ok
+invariant_of-self-in-Ok g c =
+    let l : Ledger = record { past = c.self.inside.table.past; doubt = c.self.inside.doubt; base = c.self.inside.base; next = c.self.inside.next } in
+    let u = c.args.entry in
+    let past : l.past ≡ c.args.self.now.past = ap (λ (x : Ledger). x.past) c.self.view_is in
+    let none : l.doubt ≡ None = ap (λ (x : Ledger). x.doubt) c.self.view_is ∙ c.requires.settled in
+    let items : c.add.new.self.past ≡ record l.past { log = l.past.log ++ u ∷ [] } = c.add.ensures ∙ ap (λ (p : Past). record p { log = p.log ++ u ∷ [] }) c.prepare.ensures.same in
+    let typed : IsEntry u = ⊎_elim (λ none. absurd (cc (none))) (λ is. is) c.in-Ok.ensures.typed in
+    let pushed = memory_push l u c.self.invariant (c.requires.next ∙ ap (λ (p : Past). front p + 1) (sym past)) (subst (λ (p : Past). IsTrue (fits (content p) u)) (sym past) c.requires.fit) typed c.requires.spelled c.requires.built in
+    subst (λ (x : Ledger). IsMemory x) (λ i. record { past = sym items i; doubt = sym none i; base = l.base; next = l.next }) pushed
 
 pub returns-in-Ok-clause-ok : goal.returns-in-Ok-clause-ok
 returns-in-Ok-clause-ok g c =
@@ -14,11 +27,10 @@ returns-in-Ok-clause-ok g c =
     let u = c.args.entry in
     let past : c.self.inside.table.past ≡ old.past = ap (λ (l : Ledger). l.past) c.self.view_is in
     let none : c.self.inside.doubt ≡ None = ap (λ (l : Ledger). l.doubt) c.self.view_is ∙ c.requires.settled in
-    let epoch = ap (λ (l : Ledger). l.epoch) c.self.view_is in
-    let numbers = ap (λ (l : Ledger). l.manifest_next) c.self.view_is in
+    let based = ap (λ (l : Ledger). l.base) c.self.view_is in
     let next = ap (λ (l : Ledger). l.next) c.self.view_is in
     let items : c.add.new.self.past ≡ record old.past { log = old.past.log ++ u ∷ [] } = c.add.ensures ∙ ap (λ (p : Past). record p { log = p.log ++ u ∷ [] }) (c.prepare.ensures.same ∙ past) in
-    let is = ledger_is old _ (old.past.log ++ u ∷ []) None items none epoch numbers next in
+    let is = ledger_is old _ (old.past.log ++ u ∷ []) None items none based next in
     is
 
 pub returns-in-Err-Untouched-clause-err : goal.returns-in-Err-Untouched-clause-err
@@ -27,10 +39,9 @@ returns-in-Err-Untouched-clause-err g c =
     let u = c.args.entry in
     let past : c.self.inside.table.past ≡ old.past = ap (λ (l : Ledger). l.past) c.self.view_is in
     let none : c.self.inside.doubt ≡ None = ap (λ (l : Ledger). l.doubt) c.self.view_is ∙ c.requires.settled in
-    let epoch = ap (λ (l : Ledger). l.epoch) c.self.view_is in
-    let numbers = ap (λ (l : Ledger). l.manifest_next) c.self.view_is in
+    let based = ap (λ (l : Ledger). l.base) c.self.view_is in
     let next = ap (λ (l : Ledger). l.next) c.self.view_is in
-    let is = ledger_is old _ old.past.log None (c.prepare.ensures.same ∙ past) none epoch numbers next in
+    let is = ledger_is old _ old.past.log None (c.prepare.ensures.same ∙ past) none based next in
     is
 
 pub returns-in-Err-Memory-clause-err : goal.returns-in-Err-Memory-clause-err
@@ -39,10 +50,9 @@ returns-in-Err-Memory-clause-err g c =
     let u = c.args.entry in
     let past : c.self.inside.table.past ≡ old.past = ap (λ (l : Ledger). l.past) c.self.view_is in
     let none : c.self.inside.doubt ≡ None = ap (λ (l : Ledger). l.doubt) c.self.view_is ∙ c.requires.settled in
-    let epoch = ap (λ (l : Ledger). l.epoch) c.self.view_is in
-    let numbers = ap (λ (l : Ledger). l.manifest_next) c.self.view_is in
+    let based = ap (λ (l : Ledger). l.base) c.self.view_is in
     let next = ap (λ (l : Ledger). l.next) c.self.view_is in
-    let is = ledger_is old _ old.past.log None (c.prepare.ensures.same ∙ past) none epoch numbers next in
+    let is = ledger_is old _ old.past.log None (c.prepare.ensures.same ∙ past) none based next in
     is
 
 pub returns-in-Err-Unsure-clause-err : goal.returns-in-Err-Unsure-clause-err
@@ -51,10 +61,9 @@ returns-in-Err-Unsure-clause-err g c =
     let u = c.args.entry in
     let past : c.self.inside.table.past ≡ old.past = ap (λ (l : Ledger). l.past) c.self.view_is in
     let none : c.self.inside.doubt ≡ None = ap (λ (l : Ledger). l.doubt) c.self.view_is ∙ c.requires.settled in
-    let epoch = ap (λ (l : Ledger). l.epoch) c.self.view_is in
-    let numbers = ap (λ (l : Ledger). l.manifest_next) c.self.view_is in
+    let based = ap (λ (l : Ledger). l.base) c.self.view_is in
     let next = ap (λ (l : Ledger). l.next) c.self.view_is in
-    let is = ledger_is old _ old.past.log (Some u) (c.prepare.ensures.same ∙ past) refl epoch numbers next in
+    let is = ledger_is old _ old.past.log (Some u) (c.prepare.ensures.same ∙ past) refl based next in
     is
 
 pub returns-in-Ok-clause-moves : goal.returns-in-Ok-clause-moves
@@ -63,12 +72,11 @@ returns-in-Ok-clause-moves g c told before after =
     let u = c.args.entry in
     let past : c.self.inside.table.past ≡ old.past = ap (λ (l : Ledger). l.past) c.self.view_is in
     let none : c.self.inside.doubt ≡ None = ap (λ (l : Ledger). l.doubt) c.self.view_is ∙ c.requires.settled in
-    let epoch = ap (λ (l : Ledger). l.epoch) c.self.view_is in
-    let numbers = ap (λ (l : Ledger). l.manifest_next) c.self.view_is in
+    let based = ap (λ (l : Ledger). l.base) c.self.view_is in
     let next = ap (λ (l : Ledger). l.next) c.self.view_is in
     let count = counted c.self.inside.log.len old (c.self.inside.counts ∙ ap front past) in
     let items : c.add.new.self.past ≡ record old.past { log = old.past.log ++ u ∷ [] } = c.add.ensures ∙ ap (λ (p : Past). record p { log = p.log ++ u ∷ [] }) (c.prepare.ensures.same ∙ past) in
-    let is = ledger_is old _ (old.past.log ++ u ∷ []) None items none epoch numbers next in
+    let is = ledger_is old _ (old.past.log ++ u ∷ []) None items none based next in
     let spelled : IsSpelled u = ⊎_elim (λ none. absurd (cc (none))) (λ is. is) (c.in-Ok.ensures.spelled) in
     let legal : IsKept (base old.past) (old.past.begin + 1) old.past.log → IsKept (base old.past) (old.past.begin + 1) (old.past.log ++ u ∷ []) = λ kept. kept_push (base old.past) (old.past.begin + 1) old.past.log u kept (omega (arith, c.requires.next)) spelled c.requires.fit in
     moves_as c.args.limits.now old _ _ before after _ _ is
@@ -80,11 +88,10 @@ returns-in-Err-Untouched-clause-moves g c told before after =
     let u = c.args.entry in
     let past : c.self.inside.table.past ≡ old.past = ap (λ (l : Ledger). l.past) c.self.view_is in
     let none : c.self.inside.doubt ≡ None = ap (λ (l : Ledger). l.doubt) c.self.view_is ∙ c.requires.settled in
-    let epoch = ap (λ (l : Ledger). l.epoch) c.self.view_is in
-    let numbers = ap (λ (l : Ledger). l.manifest_next) c.self.view_is in
+    let based = ap (λ (l : Ledger). l.base) c.self.view_is in
     let next = ap (λ (l : Ledger). l.next) c.self.view_is in
     let count = counted c.self.inside.log.len old (c.self.inside.counts ∙ ap front past) in
-    let is = ledger_is old _ old.past.log None (c.prepare.ensures.same ∙ past) none epoch numbers next in
+    let is = ledger_is old _ old.past.log None (c.prepare.ensures.same ∙ past) none based next in
     let any_moment = rw c.in-Err-Untouched.field-0-is at c.in-Err-Untouched.ensures.any_moment in
     let later = rw c.in-Err-Untouched.field-0-is at c.in-Err-Untouched.ensures.after in
     moves_as c.args.limits.now old _ _ before after _ _ is
@@ -96,11 +103,10 @@ returns-in-Err-Memory-clause-moves g c told before after =
     let u = c.args.entry in
     let past : c.self.inside.table.past ≡ old.past = ap (λ (l : Ledger). l.past) c.self.view_is in
     let none : c.self.inside.doubt ≡ None = ap (λ (l : Ledger). l.doubt) c.self.view_is ∙ c.requires.settled in
-    let epoch = ap (λ (l : Ledger). l.epoch) c.self.view_is in
-    let numbers = ap (λ (l : Ledger). l.manifest_next) c.self.view_is in
+    let based = ap (λ (l : Ledger). l.base) c.self.view_is in
     let next = ap (λ (l : Ledger). l.next) c.self.view_is in
     let count = counted c.self.inside.log.len old (c.self.inside.counts ∙ ap front past) in
-    let is = ledger_is old _ old.past.log None (c.prepare.ensures.same ∙ past) none epoch numbers next in
+    let is = ledger_is old _ old.past.log None (c.prepare.ensures.same ∙ past) none based next in
     let any_moment = rw c.in-Err-Memory.field-0-is at c.in-Err-Memory.ensures.any_moment in
     let later = rw c.in-Err-Memory.field-0-is at c.in-Err-Memory.ensures.after in
     moves_as c.args.limits.now old _ _ before after _ _ is
@@ -112,11 +118,10 @@ returns-in-Err-Unsure-clause-moves g c told before after =
     let u = c.args.entry in
     let past : c.self.inside.table.past ≡ old.past = ap (λ (l : Ledger). l.past) c.self.view_is in
     let none : c.self.inside.doubt ≡ None = ap (λ (l : Ledger). l.doubt) c.self.view_is ∙ c.requires.settled in
-    let epoch = ap (λ (l : Ledger). l.epoch) c.self.view_is in
-    let numbers = ap (λ (l : Ledger). l.manifest_next) c.self.view_is in
+    let based = ap (λ (l : Ledger). l.base) c.self.view_is in
     let next = ap (λ (l : Ledger). l.next) c.self.view_is in
     let count = counted c.self.inside.log.len old (c.self.inside.counts ∙ ap front past) in
-    let is = ledger_is old _ old.past.log (Some u) (c.prepare.ensures.same ∙ past) refl epoch numbers next in
+    let is = ledger_is old _ old.past.log (Some u) (c.prepare.ensures.same ∙ past) refl based next in
     let any_moment = rw c.in-Err-Unsure.field-0-is at c.in-Err-Unsure.ensures.any_moment in
     let later = rw c.in-Err-Unsure.field-0-is at c.in-Err-Unsure.ensures.after in
     let said = rw c.in-Err-Unsure.field-0-is at c.in-Err-Unsure.ensures.spelled in
@@ -131,9 +136,8 @@ returns-in-Ok-clause-added g c before after =
     let u = c.args.entry in
     let past : c.self.inside.table.past ≡ old.past = ap (λ (l : Ledger). l.past) c.self.view_is in
     let none : c.self.inside.doubt ≡ None = ap (λ (l : Ledger). l.doubt) c.self.view_is ∙ c.requires.settled in
-    let epoch = ap (λ (l : Ledger). l.epoch) c.self.view_is in
-    let numbers = ap (λ (l : Ledger). l.manifest_next) c.self.view_is in
+    let based = ap (λ (l : Ledger). l.base) c.self.view_is in
     let next = ap (λ (l : Ledger). l.next) c.self.view_is in
     let items : c.add.new.self.past ≡ record old.past { log = old.past.log ++ u ∷ [] } = c.add.ensures ∙ ap (λ (p : Past). record p { log = p.log ++ u ∷ [] }) (c.prepare.ensures.same ∙ past) in
-    let is = ledger_is old _ (old.past.log ++ u ∷ []) None items none epoch numbers next in
+    let is = ledger_is old _ (old.past.log ++ u ∷ []) None items none based next in
     ap (λ (l : Ledger). state_of l after) is

@@ -1,5 +1,5 @@
-use Rattle.std.proofs.Common.{◌≡◌, ◌∙◌, ℕ, ap, sym, subst}
-use Rattle.gt_disk.specs.Files.{Files, View, IsImage, now, still}
+use Rattle.std.proofs.Common.{◌≡◌, ◌∙◌, ℕ, Option, ap, sym, subst}
+use Rattle.gt_disk.specs.Files.{Files, IsImage, now, still}
 use Rattle.gt_disk.specs.Kinds.{gate_file, turn_file}
 use Rattle.gt_disk.specs.Moments.{Lasting}
 use Rattle.gt_disk.proofs.Steps.{runs_now}
@@ -7,8 +7,10 @@ use Rattle.gt_log.specs.Log.{content_length}
 use Rattle.gt_history.proofs.Runs.{good_end}
 use Rattle.gt_base.specs.Recovery.{recovery, recover, Keeps, counters}
 use Rattle.gt_reading.specs.Reading.{run}
+use Rattle.gt_manifest.specs.declared.manifest.Manifest.{Manifest}
+use Rattle.gt_journal.specs.Ledger.{HasNext}
 use Rattle.gt_journal.proofs.Good.{good_beside}
-use Rattle.gt_journal.proofs.Opened.{Opened, good_open, good_opened, narrows_join, is_opened}
+use Rattle.gt_journal.proofs.Opened.{Opened, below_later, good_open, good_opened, narrows_join, is_opened}
 use Rattle.gt_journal.proofs.journal.Journal.open.Goals as goal
 
 pub returns-in_default-clause-good : goal.returns-in_default-clause-good
@@ -48,6 +50,16 @@ returns-in-Ok-load-clause-stored g c told good =
     let len = c.in-Ok.ensures.len told ∙ sym (ap (λ (r : Files). content_length (r gate_file)) reads) in
     let is = ap (λ (r : Files). run r (recovery c.args.limits.now)) (sym reads) ∙ c.in-Ok-load.ensures.loads told len in
     let turn = c.in-Ok-load.ensures.turn told ∙ ap (λ (r : Files). still (r turn_file)) reads in
-    let o = is_opened c.args.limits.now v w x _ shows shows_end good later is (λ first entries recovers keeps. (c.in-Ok.ensures.stands told first entries recovers keeps).1) (runs_now turn_file (Lasting (now w turn_file) (w.reads turn_file)) w x (c.load.ensures.run told)) turn in
+    let o = is_opened c.args.limits.now v w x _ shows shows_end good later is (λ first entries recovers keeps. (c.in-Ok.ensures.stands told first entries recovers keeps).1) (runs_now turn_file (Lasting (now w turn_file) (w.reads turn_file)) w x (c.load.ensures.run told)) turn c.in-Ok-load.ensures.carried.fits in
     let begin = sym c.in-Ok-load.ensures.begin in
-    subst (λ (n : ℕ). Opened c.args.limits.now n c.in-Ok-load.base.manifest c.in-Ok-load.table.past (now x)) begin (o.stored, o.sound, o.packs)
+    let opened = subst (λ (n : ℕ). Opened c.args.limits.now n c.in-Ok-load.base.manifest c.in-Ok-load.table.past (now x)) begin (o.stored, o.sound, o.packs) in
+    let numbers = c.in-Ok-load.ensures.carried.numbers in (
+      opened.0,
+      opened.1,
+      record {
+        packs = opened.2;
+        below = below_later c.in-Ok-load.base.manifest.next c.in-Ok-load.next c.in-Ok-load.table.past.repos numbers o.below;
+        manifest = o.manifest;
+        doubt = subst (λ (d : Option Manifest). HasNext c.in-Ok-load.base.manifest.epoch d (now x)) (sym c.in-Ok-load.ensures.settled) tt;
+      },
+    )

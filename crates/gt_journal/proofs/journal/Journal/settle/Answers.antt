@@ -1,8 +1,9 @@
-use Rattle.std.proofs.Common.{◌≡◌, ◌∙◌, ◌++◌, ◌+◌, ◌∷◌, [], List, ap, sym, refl, map, inl, inr, None, Some}
-use Rattle.gt_model.specs.declared.entry.Entry.{Entry}
+use Rattle.std.proofs.Common.{◌≡◌, ◌∙◌, ◌++◌, ◌+◌, ◌∷◌, [], ap, sym, refl, map, inl, inr, None, Some, subst}
 use Rattle.gt_table.specs.Table.{Past, front}
-use Rattle.gt_journal.specs.Ledger.{Ledger, changed}
+use Rattle.gt_journal.specs.Ledger.{Ledger}
 use Rattle.gt_base.specs.Spelling.{encode}
+use Rattle.gt_journal.specs.Carried.{IsMemory}
+use Rattle.gt_journal.proofs.Memory.{memory_push}
 use Rattle.gt_journal.proofs.Moves.{ledger_is, settling_as, settled_in, settled_out, still_in_doubt, counted, settled_state}
 use Rattle.gt_journal.proofs.journal.Journal.settle.Goals as goal
 
@@ -24,6 +25,17 @@ invariant_of-self-inside-in-Err g c =
       ),
     )
 
+pub invariant_of-self-in-Ok-true : goal.invariant_of-self-in-Ok-true
+invariant_of-self-in-Ok-true g c =
+    let l : Ledger = record { past = c.self.inside.table.past; doubt = c.self.inside.doubt; base = c.self.inside.base; next = c.self.inside.next } in
+    let u = c.in-Some.entry in
+    let there : l.doubt ≡ Some u = cc in
+    let gone : c.take.new.self ≡ None = cc in
+    let items : c.add.new.self.past ≡ record l.past { log = l.past.log ++ u ∷ [] } = c.add.ensures in
+    let good = c.self.invariant.doubt u there in
+    let pushed = memory_push l u c.self.invariant (c.self.inside.after u there) (c.self.inside.fit u there) good.0 good.1 (c.self.inside.built u there) in
+    subst (λ (x : Ledger). IsMemory x) (λ i. record { past = sym items i; doubt = sym gone i; base = l.base; next = l.next }) pushed
+
 pub returns-in-Ok-true-clause-moves : goal.returns-in-Ok-true-clause-moves
 returns-in-Ok-true-clause-moves g c told =
     let old = c.args.self.now in
@@ -31,12 +43,11 @@ returns-in-Ok-true-clause-moves g c told =
     let past : c.self.inside.table.past ≡ old.past = ap (λ (l : Ledger). l.past) c.self.view_is in
     let there : c.self.inside.doubt ≡ Some u = cc in
     let here : old.doubt ≡ Some u = ap (λ (l : Ledger). l.doubt) (sym c.self.view_is) ∙ there in
-    let epoch = ap (λ (l : Ledger). l.epoch) c.self.view_is in
-    let numbers = ap (λ (l : Ledger). l.manifest_next) c.self.view_is in
+    let based = ap (λ (l : Ledger). l.base) c.self.view_is in
     let next = ap (λ (l : Ledger). l.next) c.self.view_is in
     let gone : c.take.new.self ≡ None = cc in
     let items : c.add.new.self.past ≡ record old.past { log = old.past.log ++ u ∷ [] } = c.add.ensures ∙ ap (λ (p : Past). record p { log = p.log ++ u ∷ [] }) past in
-    let is = ledger_is old _ (old.past.log ++ u ∷ []) None items gone epoch numbers next in
+    let is = ledger_is old _ (old.past.log ++ u ∷ []) None items gone based next in
     let count = counted c.self.inside.log.len old (c.self.inside.counts ∙ ap front past) in
     λ limits before after.
     settling_as limits old _ _ before after _ _ is
@@ -50,11 +61,10 @@ returns-in-Ok-false-clause-moves g c told =
     let past : c.self.inside.table.past ≡ old.past = ap (λ (l : Ledger). l.past) c.self.view_is in
     let there : c.self.inside.doubt ≡ Some u = cc in
     let here : old.doubt ≡ Some u = ap (λ (l : Ledger). l.doubt) (sym c.self.view_is) ∙ there in
-    let epoch = ap (λ (l : Ledger). l.epoch) c.self.view_is in
-    let numbers = ap (λ (l : Ledger). l.manifest_next) c.self.view_is in
+    let based = ap (λ (l : Ledger). l.base) c.self.view_is in
     let next = ap (λ (l : Ledger). l.next) c.self.view_is in
     let gone : c.take.new.self ≡ None = cc in
-    let is = ledger_is old _ old.past.log None past gone epoch numbers next in
+    let is = ledger_is old _ old.past.log None past gone based next in
     let count = counted c.self.inside.log.len old (c.self.inside.counts ∙ ap front past) in
     λ limits before after.
     settling_as limits old _ _ before after _ _ is
@@ -68,12 +78,11 @@ returns-in-Err-clause-moves g c told =
     let past : c.self.inside.table.past ≡ old.past = ap (λ (l : Ledger). l.past) c.self.view_is in
     let there : c.self.inside.doubt ≡ Some u = cc in
     let here : old.doubt ≡ Some u = ap (λ (l : Ledger). l.doubt) (sym c.self.view_is) ∙ there in
-    let epoch = ap (λ (l : Ledger). l.epoch) c.self.view_is in
-    let numbers = ap (λ (l : Ledger). l.manifest_next) c.self.view_is in
+    let based = ap (λ (l : Ledger). l.base) c.self.view_is in
     let next = ap (λ (l : Ledger). l.next) c.self.view_is in
     let count = counted c.self.inside.log.len old (c.self.inside.counts ∙ ap front past) in
     λ limits before after.
-    let is = ledger_is old _ old.past.log (Some u) past refl epoch numbers next in
+    let is = ledger_is old _ old.past.log (Some u) past refl based next in
     settling_as limits old _ _ before after _ _ is
     (still_in_doubt limits old before after u _ _ here (c.in-Err.ensures.any_moment told (old.past.begin + 1) (map encode old.past.log) (encode u) count) (c.in-Err.ensures.after told (old.past.begin + 1) (map encode old.past.log) (encode u) count))
 
@@ -84,12 +93,11 @@ returns-in-Ok-true-clause-settles g c pins =
     let past : c.self.inside.table.past ≡ old.past = ap (λ (l : Ledger). l.past) c.self.view_is in
     let there : c.self.inside.doubt ≡ Some u = cc in
     let here : old.doubt ≡ Some u = ap (λ (l : Ledger). l.doubt) (sym c.self.view_is) ∙ there in
-    let epoch = ap (λ (l : Ledger). l.epoch) c.self.view_is in
-    let numbers = ap (λ (l : Ledger). l.manifest_next) c.self.view_is in
+    let based = ap (λ (l : Ledger). l.base) c.self.view_is in
     let next = ap (λ (l : Ledger). l.next) c.self.view_is in
     let gone : c.take.new.self ≡ None = cc in
     let items : c.add.new.self.past ≡ record old.past { log = old.past.log ++ u ∷ [] } = c.add.ensures ∙ ap (λ (p : Past). record p { log = p.log ++ u ∷ [] }) past in
-    let is = ledger_is old _ (old.past.log ++ u ∷ []) None items gone epoch numbers next in
+    let is = ledger_is old _ (old.past.log ++ u ∷ []) None items gone based next in
     settled_state old _ u pins here (inr is)
 
 pub returns-in-Ok-false-clause-settles : goal.returns-in-Ok-false-clause-settles
@@ -99,9 +107,8 @@ returns-in-Ok-false-clause-settles g c pins =
     let past : c.self.inside.table.past ≡ old.past = ap (λ (l : Ledger). l.past) c.self.view_is in
     let there : c.self.inside.doubt ≡ Some u = cc in
     let here : old.doubt ≡ Some u = ap (λ (l : Ledger). l.doubt) (sym c.self.view_is) ∙ there in
-    let epoch = ap (λ (l : Ledger). l.epoch) c.self.view_is in
-    let numbers = ap (λ (l : Ledger). l.manifest_next) c.self.view_is in
+    let based = ap (λ (l : Ledger). l.base) c.self.view_is in
     let next = ap (λ (l : Ledger). l.next) c.self.view_is in
     let gone : c.take.new.self ≡ None = cc in
-    let is = ledger_is old _ old.past.log None past gone epoch numbers next in
+    let is = ledger_is old _ old.past.log None past gone based next in
     settled_state old _ u pins here (inl is)

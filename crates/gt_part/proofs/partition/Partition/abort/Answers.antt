@@ -2,7 +2,7 @@ use Rattle.std.proofs.Common.{◌≡◌, List, length, true, refl, ◌∙◌, ar
 use Rattle.gt_model.specs.declared.event.Event.TheVariants.{Abort}
 use Rattle.gt_model.specs.Machine.{Pin, is_faulty, is_live, released}
 use Rattle.gt_pins.proofs.Numbers.{released_fewer}
-use Rattle.gt_journal.specs.Ledger.{Ledger}
+use Rattle.gt_journal.specs.Ledger.{Ledger, known as ledger_known}
 use Rattle.gt_part.specs.Shown.{Shown}
 use Rattle.gt_act.specs.Ended.{answer_of}
 use Rattle.gt_act.specs.declared.ended.Ended.{Ended}
@@ -25,4 +25,4 @@ pub returns-clause-called : goal.returns-clause-called
 returns-clause-called g c = rw (← c.self.view_is) (
     let e = c.abort-ended.ensures in
     let asked : Abort c.number.result ≡ Abort c.args.pin = ap Abort c.number.ensures in
-    called _ _ _ _ _ _ _ _ _ _ _ _ _ _ asked (c.note.ensures.answer ∙ c.of.ensures.answer) c.of.ensures.kept c.tick-tick.ensures refl refl c.note.ensures.opening refl c.note.ensures.turns tt e.step (sure_cause _ _ (ap (λ (e : Ended). is_faulty (answer_of e)) e.always)) (omega arith) (λ told. moves_pins _ _ _ _ _ _ e.journal) (ap (λ (l : Ledger). l.past.repos) e.journal))
+    called _ _ _ _ _ _ _ _ _ _ _ _ _ _ asked (c.note.ensures.answer ∙ c.of.ensures.answer) c.of.ensures.kept c.tick-tick.ensures refl refl c.note.ensures.opening refl c.note.ensures.turns tt e.step (sure_cause _ _ (ap (λ (e : Ended). is_faulty (answer_of e)) e.always)) (omega arith) (λ told. moves_pins _ _ _ _ _ _ e.journal) (ap (λ (l : Ledger). ledger_known l) e.journal))

@@ -13,5 +13,5 @@ returns g c = record {
   called = rw (← c.self.view_is) (
       let e = c.commit-reply.ensures in
       let asked : Commit c.number.result c.args.refs c.args.records ≡ Commit c.args.pin.now c.args.stage.now.staged.refs c.args.stage.now.staged.records = cc (c.number.ensures, c.requires.refs, c.requires.records) in
-      called _ _ _ _ _ _ _ _ _ _ _ _ _ _ asked c.note.ensures.answer e.kept c.tick-tick.ensures refl refl (c.note.ensures.opening ∙ c.take_room.ensures.opening) c.take_room.ensures.same c.note.ensures.turns c.law_stage.ensures.named e.step e.cause e.counted e.moves e.repos);
+      called _ _ _ _ _ _ _ _ _ _ _ _ _ _ asked c.note.ensures.answer e.kept c.tick-tick.ensures refl refl (c.note.ensures.opening ∙ c.take_room.ensures.opening) c.take_room.ensures.same c.note.ensures.turns c.law_stage.ensures.named e.step e.cause e.counted e.moves e.known);
 }

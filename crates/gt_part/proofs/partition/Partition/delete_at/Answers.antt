@@ -8,4 +8,4 @@ returns-in-Err-clause-called g c = rw (← c.self.view_is) (not_called _ _ _ _ _
 pub returns-clause-called : goal.returns-clause-called
 returns-clause-called g c = rw (← c.self.view_is) (
     let e = c.delete-reply.ensures in
-    called _ _ _ _ _ _ _ _ _ _ _ _ _ _ refl c.note.ensures.answer e.kept c.tick-tick.ensures refl refl (c.note.ensures.opening ∙ c.take_room.ensures.opening) c.take_room.ensures.same c.note.ensures.turns tt e.step e.cause e.counted e.moves e.repos)
+    called _ _ _ _ _ _ _ _ _ _ _ _ _ _ refl c.note.ensures.answer e.kept c.tick-tick.ensures refl refl (c.note.ensures.opening ∙ c.take_room.ensures.opening) c.take_room.ensures.same c.note.ensures.turns tt e.step e.cause e.counted e.moves e.known)

@@ -18,4 +18,4 @@ pub returns-clause-called : goal.returns-clause-called
 returns-clause-called g c = rw (← c.self.view_is) (
     let e = c.get_ref-ended.ensures in
     let asked : GetRef c.number.result c.in-Ok.copy ≡ GetRef c.args.pin.now c.args.name.now = cc (c.number.ensures, c.in-Ok.ensures.cases) in
-    called _ _ _ _ _ _ _ _ _ _ _ _ _ _ asked (c.note.ensures.answer ∙ c.of.ensures.answer) c.of.ensures.kept c.tick-tick.ensures refl refl (c.note.ensures.opening ∙ c.take_room.ensures.opening) c.take_room.ensures.same c.note.ensures.turns tt e.step (sure_cause _ _ e.sure) (omega arith) (λ told. moves_pins _ _ _ _ _ _ refl) refl)
+    called _ _ _ _ _ _ _ _ _ _ _ _ _ _ asked (c.note.ensures.answer ∙ c.of.ensures.answer) c.of.ensures.kept c.tick-tick.ensures refl refl (c.note.ensures.opening ∙ c.take_room.ensures.opening) c.take_room.ensures.same c.note.ensures.turns tt e.step (sure_cause _ _ e.sure) (omega arith) (λ told. moves_pins _ c.self.inside.state.journal c.self.inside.state.journal _ _ _ refl) refl)

@@ -18,4 +18,4 @@ pub returns-clause-called : goal.returns-clause-called
 returns-clause-called g c = rw (← c.self.view_is) (
     let e = c.list_refs-reply.ensures in
     let asked : ListRefs c.number.result c.from_vec.result ≡ ListRefs c.args.pin.now c.args.prefix.now = cc (c.number.ensures, c.from_vec.ensures, c.in-Ok.ensures.items) in
-    called _ _ _ _ _ _ _ _ _ _ _ _ _ _ asked c.note.ensures.answer e.kept c.tick-tick.ensures refl refl (c.note.ensures.opening ∙ c.take_room.ensures.opening) c.take_room.ensures.same c.note.ensures.turns tt e.step (sure_cause _ _ e.sure) (omega arith) (λ told. moves_pins _ _ _ _ _ _ refl) refl)
+    called _ _ _ _ _ _ _ _ _ _ _ _ _ _ asked c.note.ensures.answer e.kept c.tick-tick.ensures refl refl (c.note.ensures.opening ∙ c.take_room.ensures.opening) c.take_room.ensures.same c.note.ensures.turns tt e.step (sure_cause _ _ e.sure) (omega arith) (λ told. moves_pins _ c.self.inside.state.journal c.self.inside.state.journal _ _ _ refl) refl)

@@ -3,6 +3,7 @@ use Rattle.gt_model.specs.declared.event.Event.TheVariants as event
 use Rattle.gt_script.specs.declared.form.Form.TheVariants as line
 use Rattle.gt_session.specs.Sessions.{seen_of}
 use Rattle.gt_session.specs.Courses.{with_path, with_open, unless_open, finds, reads, ask, assign, list_in}
+use Rattle.gt_session.proofs.ApplyLaws.{only_of, does_apply}
 use Rattle.gt_session.proofs.CourseLaws.{does_as}
 use Rattle.gt_session.proofs.session.Session.request.Goals as goal
 
@@ -33,3 +34,17 @@ returns-in-List-clause-does g c =
     let i = c.in-List in
     let s = c.args.self.now in
     does_as g.P.Parts.did g.P.Parts.mapped _ s _ _ _ c.args.form.now (line.List i.prefix) (λ w. with_open s (λ o. reads o.partition (event.ListRefs o.pin w) (list_in s o w))) i.prefix _ i.is refl c.as_slice-in-List.ensures c.list.ensures.takes
+
+pub apply-requires-clause-one : goal.apply-requires-clause-one
+apply-requires-clause-one g c = (only_of c.args.self.now c.args.form.now c.in-Apply.partition c.in-Apply.n c.in-Apply.is c.requires.built).0
+
+pub apply-requires-clause-some : goal.apply-requires-clause-some
+apply-requires-clause-some g c = (only_of c.args.self.now c.args.form.now c.in-Apply.partition c.in-Apply.n c.in-Apply.is c.requires.built).1
+
+pub apply-requires-clause-most : goal.apply-requires-clause-most
+apply-requires-clause-most g c = (only_of c.args.self.now c.args.form.now c.in-Apply.partition c.in-Apply.n c.in-Apply.is c.requires.built).2
+
+pub returns-in-Apply-clause-does : goal.returns-in-Apply-clause-does
+returns-in-Apply-clause-does g c =
+    let i = c.in-Apply in
+    does_apply c.args.self.now c.args.form.now i.partition i.n i.is g.P.Parts.did g.P.Parts.mapped _ _ _ _ c.requires.built c.apply.ensures.takes

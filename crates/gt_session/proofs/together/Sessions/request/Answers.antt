@@ -2,6 +2,7 @@ use Rattle.std.proofs.Common.{◌-◌, ◌<◌, length, sym, subst, refl, arith,
 use Rattle.std.proofs.Math.ListN.{set}
 use Rattle.gt_session.specs.Sessions.{Session}
 use Rattle.gt_session.specs.Together.{AreHeld, Requests}
+use Rattle.gt_session.proofs.ApplyLaws.{has_so}
 use Rattle.gt_session.proofs.NumberLaws.{does_number}
 use Rattle.gt_session.proofs.TogetherLaws.{get_at, numbered_set, held_set, requested}
 use Rattle.gt_session.proofs.together.Sessions.request.Goals as goal
@@ -12,6 +13,9 @@ invariant_of-self g c =
     let within : i < length c.self.inside.all.items = omega (arith, c.self.invariant.count) in
     numbered_set c.self.inside.all.items i c.index_mut.result.now c.request.new.self c.self.invariant (get_at c.self.inside.all.items i c.index_mut.result.now within c.index_mut.ensures.value)
     (does_number g.P.Parts.did g.P.Parts.mapped (record { session = c.index_mut.result.now.number; line = c.args.line }) c.index_mut.result.now c.args.form.now (c.request.result, c.request.new.self) c.args.parts.now c.request.new.parts c.request.ensures.does)
+
+pub request-requires-clause-built : goal.request-requires-clause-built
+request-requires-clause-built g c = has_so c.index_mut.result.now c.args.form.now c.requires.built
 
 pub returns-clause-does : goal.returns-clause-does
 returns-clause-does g c =
