@@ -5,11 +5,11 @@ makes, so it tells the answers of a run in which calls fail, and what each stop 
 """
 import hashlib
 import struct
+from typing import NamedTuple
 
 from formats.bases import LOOSE_KIND, MANIFEST, PACK, PACKED, Bad, loose_of, manifest_of, pack_of, packed_of
-from formats.bases import USUAL as EPOCHS
+from store_checkpoint import ZERO, Checkpoint, Shelf, text
 
-ZERO = "0" * 40
 GATE, TURN = (1, 0), (2, 0)
 
 
@@ -38,8 +38,8 @@ class File:
         other.__dict__.update(self.__dict__)
         return other
 
-    def is_still(self):
-        return not self.loose and self.more is None
+    def is_synced(self):
+        return not self.loose and not self.more
 
     def left(self, choice):
         if choice == "most":
@@ -177,10 +177,6 @@ class Entry:
 SPELLED = {}
 
 
-def text(word):
-    return struct.pack(">H", len(word)) + word.encode()
-
-
 class Repo:
     """The references and the objects of a repository: each object's file, place and length."""
 
@@ -250,34 +246,36 @@ class Partition:
         self.mount()
 
     def mount(self):
-        self.doubt, self.live = None, 0
+        self.doubt, self.turn_doubt, self.live = None, None, 0
         try:
             self.disk.sync(GATE)
             count = self.disk.len(GATE) or 0
-            if count > self.limits[0]:
-                raise Ends(damaged(GATE, self.limits[0]))
-            self.base, content = self.load(count)
-            self.contents = [content]
+            if count > self.limits.positions:
+                raise Ends(damaged(GATE, self.limits.positions))
+            self.checkpoint, content = self.load(count)
+            self.base, self.next_file = self.checkpoint.applied, self.checkpoint.next_file
+            self.contents, self.log = [content], []
             for position in range(self.base + 1, count + 1):
                 self.read(position)
         except Failed:
             raise Ends(DISK_FAULT) from None
 
     def load(self, gate):
-        """The applied position of the epoch, and the content that the files of its manifest have."""
+        """What the manifest of the epoch says, and the content that its files have."""
         self.disk.sync(TURN)
         epoch = self.disk.len(TURN) or 0
-        if epoch > EPOCHS:
-            raise Ends(damaged(TURN, EPOCHS))
+        if epoch > self.limits.epochs:
+            raise Ends(damaged(TURN, self.limits.epochs))
         if epoch == 0:
-            return 0, {}
+            return Checkpoint(), {}
         key = (MANIFEST, epoch)
-        found, applied, _, repos = self.parsed(key, manifest_of)
+        found, applied, next_file, repos = self.parsed(key, manifest_of)
         if found != epoch:
             raise Ends(damaged(key, 4))
         if applied > gate:
             raise Ends(damaged(key, 12))
-        return applied, {repo[0].decode(): self.load_repo(repo) for repo in repos}
+        shelves = {path.decode(): Shelf(packs, packed, {name.decode(): n for name, n in loose}) for path, _, _, packs, packed, loose in repos}
+        return Checkpoint(epoch, applied, next_file, shelves), {repo[0].decode(): self.load_repo(repo) for repo in repos}
 
     def load_repo(self, repo):
         """The first pack that has a name counts, a loose value hides a packed one, and 40 zeros are none."""
@@ -312,17 +310,53 @@ class Partition:
             raise Ends(damaged(key, 4))
         if not fits(self.contents[-1], entry):
             raise Ends(damaged(key, 0))
+        self.enter(entry)
+
+    def enter(self, entry):
+        self.log.append(entry)
         self.contents.append(after(self.contents[-1], entry))
 
     def front(self):
-        return self.base + len(self.contents) - 1
+        return self.base + len(self.log)
 
     def settle(self):
         if self.doubt:
             self.disk.sync(GATE)
             if self.disk.len(GATE) > self.front():
-                self.contents.append(after(self.contents[-1], self.doubt))
+                self.enter(self.doubt)
             self.doubt = None
+
+    def settle_turn(self):
+        if self.turn_doubt:
+            self.disk.sync(TURN)
+            if (self.disk.len(TURN) or 0) > self.checkpoint.epoch:
+                self.checkpoint = self.turn_doubt
+            self.turn_doubt = None
+
+    def apply(self, count):
+        self.settle()
+        self.settle_turn()
+        begin = self.checkpoint.applied - self.base
+        entries = self.log[begin:begin + count]
+        if entries:
+            if self.checkpoint.epoch >= self.limits.epochs:
+                return "epochfull"
+            self.advance(entries)
+        return f"ok apply {self.checkpoint.applied}"
+
+    def advance(self, entries):
+        """Each new file lasts, then the manifest does, and then its byte in turn. From that one on the numbers are given out."""
+        now = self.checkpoint
+        following, files = Checkpoint(now.epoch, now.applied, self.next_file, now.shelves).after(entries)
+        for key, (first, *rest) in [*files, (following.key(), [following.spell()])]:
+            self.disk.write(key, first)
+            for piece in rest:
+                self.disk.append(key, piece)
+            self.disk.sync(key)
+        self.turn_doubt, self.next_file = following, following.next_file
+        self.disk.append(TURN, b"\x01")
+        self.disk.sync(TURN)
+        self.checkpoint, self.turn_doubt = following, None
 
     def add(self, entry, done):
         """Adds an entry, and answers `done` with its position."""
@@ -335,11 +369,11 @@ class Partition:
         except Failed:
             self.doubt = entry
             return f"unsure {entry.position}"
-        self.contents.append(after(self.contents[-1], entry))
+        self.enter(entry)
         return f"ok {done} {entry.position}"
 
     def is_full(self):
-        return self.front() >= self.limits[0]
+        return self.front() >= self.limits.positions
 
     def create(self, path):
         self.settle()
@@ -359,7 +393,7 @@ class Partition:
 
     def begin(self, path):
         self.settle()
-        if self.live >= self.limits[1]:
+        if self.live >= self.limits.pins:
             return "pinsfull", None
         if path not in self.contents[-1]:
             return "norepository", None
@@ -411,7 +445,7 @@ class Partition:
     def entry_of(self, path, stage):
         repo = self.contents[-1][path]
         added = sorted(stage.records.keys() - repo.objects.keys())
-        needed = {new for _, new in stage.refs.values() if new not in (None, ZERO)}
+        needed = stage.records.keys() | {new for _, new in stage.refs.values() if new not in (None, ZERO)}
         needed.update(need for name in added for need in stage.records[name][1])
         refs = [(name, old, new) for name, (old, new) in stage.refs.items()]
         records = [(name, stage.records[name][0]) for name in added]
@@ -465,7 +499,15 @@ class Session:
         self.passed, self.stage = None, Stage()
 
 
-USUAL = (4294967295, 64)
+class Limits(NamedTuple):
+    """How many positions a log may have, how many transactions may be open, and how many epochs there may be."""
+
+    positions: int = 4_294_967_295
+    pins: int = 64
+    epochs: int = 4_294_967_295
+
+
+USUAL = Limits()
 
 
 class Script:
@@ -501,6 +543,8 @@ class Script:
             return "devicefault"
 
     def ask(self, session, verb, words):
+        if verb == "apply":
+            return self.partition.apply(int(words[1]))
         if verb in ("create", "delete"):
             return bad_path(words[0]) or getattr(self.partition, verb)(words[0])
         if verb == "begin":

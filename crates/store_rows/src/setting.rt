@@ -39,11 +39,13 @@ pub(crate) fn set(alloc: Global, setting: &mut Setting, what: &str, words: &str)
     Some(())
 }
 
-/// Limits of positions and of pins, as `3 2`; any other word is the usual.
+/// Limits of positions, of pins and of epochs, as `3 2 1`; any other word is the usual.
 fn limits_of(words: &str) -> Option<Limits> {
-    let (positions, pins) = words.split_once(' ')?;
+    let (positions, rest) = words.split_once(' ')?;
+    let (pins, epochs) = rest.split_once(' ')?;
     let mut limits = Limits::usual();
     limits.positions = number(positions);
     limits.pins = pins.parse::<u8>().unwrap_or(u8::MAX);
+    limits.epochs = number(epochs);
     Some(limits)
 }

@@ -7,7 +7,7 @@ from .spelling import ZERO
 
 BROKEN_RULE = nine_rules()
 PATH = re.compile(rb"[a-z0-9._/-]+")
-BLOB = re.compile(rb"blob (0|[1-9][0-9]*)\0")
+RECORD = re.compile(rb"(?:blob|tree|commit|tag) (0|[1-9][0-9]*)\0")
 LINE = re.compile(rb"([0-9a-f]{40}) (.*)", re.DOTALL)
 PEELED = re.compile(rb"\^([0-9a-f]{40})")
 LOOSE = re.compile(rb"([0-9a-f]{40})\n")
@@ -100,9 +100,9 @@ def over_the_list(rules, repos, next_file):
             seen.add(value)
 
 
-def blob(value):
-    """Whether these bytes are a record; the packs here have blobs alone."""
-    head = BLOB.match(value)
+def is_record(value):
+    """Whether these bytes are a record; the trees, commits and tags here have nothing wrong in them."""
+    head = RECORD.match(value)
     return bool(head) and len(value) - head.end() == int(head[1])
 
 
@@ -116,7 +116,7 @@ def pack_of(whole):
         name = it.take(20, lambda value: last is None or last < value)
         length = it.number(4)
         items.append((name, begin, it.at, length))
-        it.take(length, blob)
+        it.take(length, is_record)
         last = name
     index = it.at
     for name, begin, *_ in items:
