@@ -391,8 +391,10 @@ class Partition:
             return "logfull"
         return self.add(Entry(self.front() + 1, path, "delete"), "delete")
 
-    def begin(self, path):
+    def begin(self, path, seen):
         self.settle()
+        if self.front() < seen:
+            return f"behind {seen} {self.front()}", None
         if self.live >= self.limits.pins:
             return "pinsfull", None
         if path not in self.contents[-1]:
@@ -548,17 +550,18 @@ class Script:
         if verb in ("create", "delete"):
             return bad_path(words[0]) or getattr(self.partition, verb)(words[0])
         if verb == "begin":
-            return self.begin(session, words[0])
+            return self.begin(session, words[0], int(words[2]) if words[1:] else 0)
         if session.passed is None:
             return "notopen"
         return getattr(self, verb)(session, *words)
 
-    def begin(self, session, path):
+    def begin(self, session, path, seen):
+        # What a session has seen of a log that only grows is never past its front, so the position that a line names decides.
         if session.passed is not None:
             return "alreadyopen"
         if bad_path(path):
             return bad_path(path)
-        answer, session.passed = self.partition.begin(path)
+        answer, session.passed = self.partition.begin(path, seen)
         session.stage = Stage()
         return answer
 

@@ -194,6 +194,42 @@ MORE = {
         ("2 list", f"refs 1 {TEST} refs/tags/u"),
         (f"2 cat {TEST}", f"object blob {TEST_WORD}"),
     ],
+    "from_a_position": PUSH + [
+        ("1 create b.git", "ok create 3"),
+        ("1 create c.git", "ok create 4"),
+        ("1 create d.git", "ok create 5"),
+        ("1 begin a.git from 9", "behind 9 5"),
+        ("1 list", "notopen"),
+        ("1 begin a.git from 6", "behind 6 5"),
+        ("1 begin a.git from 5", "ok begin 5"),
+        ("1 begin a.git from 9", "alreadyopen"),
+        ("1 list", f"refs 1 {HELLO} {TAG}"),
+        ("1 abort", "ok abort"),
+        ("2 begin a.git from 2", "ok begin 5"),
+        ("3 begin a.git from 0", "ok begin 5"),
+        # The position is looked at before the repository, and the path before the position.
+        ("4 begin z.git from 6", "behind 6 5"),
+        ("4 begin z.git from 5", "norepository"),
+        ("4 begin A.git from 6", "badpath 0"),
+        ("2 restart", "ok restart"),
+        ("2 begin a.git from 6", "behind 6 5"),
+        ("2 begin a.git from 5", "ok begin 5"),
+        ("3 create e.git", "ok create 6"),
+        ("3 begin e.git from 6", "ok begin 6"),
+        ("4 begin e.git from 4294967295", "behind 4294967295 6"),
+        ("2 begin e.git from 6", "alreadyopen"),
+    ],
+    # The 65th live transaction is refused, and so is one from a position that isn't there yet, before it.
+    "pins_are_full": PUSH + [(f"{session} begin a.git", "ok begin 2") for session in range(1, 65)] + [
+        ("65 begin a.git", "pinsfull"),
+        ("65 begin a.git from 2", "pinsfull"),
+        ("65 begin a.git from 3", "behind 3 2"),
+        ("65 begin z.git", "pinsfull"),
+        ("7 abort", "ok abort"),
+        ("65 begin a.git", "ok begin 2"),
+        ("66 begin a.git", "pinsfull"),
+        ("1 list", f"refs 1 {HELLO} {TAG}"),
+    ],
     "two_repositories": PUSH + [
         ("1 create b.git", "ok create 3"),
         ("2 begin b.git", "ok begin 3"),
@@ -331,7 +367,7 @@ BAD_INPUTS = [
 ]
 NOT_YET = [
     (["1 create a.git", "1 pool p.git", "1 commit"], "not yet 2"), (["1 create a.git near b.git"], "not yet 1"),
-    (["1 begin a.git from 1"], "not yet 1"), (["1 trim 1"], "not yet 1"),
+    (["1 begin a.git from 1", "1 trim 1"], "not yet 2"), (["1 trim 1"], "not yet 1"),
 ]
 
 # Five entries, and six of another store.

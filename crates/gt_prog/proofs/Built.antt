@@ -4,7 +4,7 @@ use Rattle.std.proofs.lemmas.Iterator.Adapters.{position_from-zero}
 use Rattle.std.specs.List.{All, position, position_from}
 use Rattle.std.specs.Option.{option_map}
 use Rattle.gt_script.specs.declared.form.Form.{Form}
-use Rattle.gt_script.specs.declared.form.Form.TheVariants.{Create, Begin, Restart}
+use Rattle.gt_script.specs.declared.form.Form.TheVariants.{Create, Restart}
 use Rattle.gt_script.specs.declared.request.Request.{Request}
 use Rattle.gt_session.specs.Courses.{has_course}
 use Rattle.gt_prog.specs.Script.{HasSession, is_built, not_built}
@@ -14,8 +14,6 @@ pub built_course : (form : Form) → is_built form ≡ true → (form ≡ Restar
 built_course Restart is other = absurd (other refl)
 built_course (Create path None) is other = refl
 built_course (Create path (Some near)) is other = is
-built_course (Begin path None) is other = refl
-built_course (Begin path (Some seen)) is other = is
 built_course form is other = is
 
 none_passes : {X : Type 0} (p : X → Bool) (xs : List X) (begin i : ℕ) (d : X) → position_from p begin xs ≡ None → i < length xs → p (get_or xs i d) ≡ false

@@ -20,8 +20,8 @@ use Rattle.gt_script.specs.declared.form.Form.{Form}
 use Rattle.gt_script.specs.declared.form.Form.TheVariants as line
 use Rattle.gt_stage.specs.Staging.{Holding, own_ref, own_record, is_over_refs, is_over_bytes, staged_set, staged_check, staged_put}
 use Rattle.gt_prog.specs.Lines.{names_damage}
-use Rattle.gt_session.specs.Sessions.{Open, Session, seen_of}
-use Rattle.gt_session.specs.Courses.{Turned, Course, refuses, alone, finds, asks, reads, assign, ask, course, with_path, with_ref, with_open, unless_open, with_old, old_in, staged, put, put_record, set, check, get, cat, value_of, content_of, refusal_of, list_in, can_apply}
+use Rattle.gt_session.specs.Sessions.{Open, Session}
+use Rattle.gt_session.specs.Courses.{Turned, Course, refuses, alone, finds, asks, reads, assign, ask, course, with_path, with_ref, with_open, unless_open, with_old, old_in, staged, put, put_record, set, check, get, cat, value_of, content_of, refusal_of, list_in, can_apply, seen_from}
 use Rattle.gt_session.specs.Calls.{Takes, Makes, Does, GivesUp}
 use Rattle.gt_session.specs.Together.{Requests, GiveUp}
 use Rattle.gt_prog.specs.One.{Mapped}
@@ -139,7 +139,7 @@ module _ (s : Session) where
   course_faultless : (form : Form) → IsEachFaultless (course s form)
   course_faultless (line.Create path None) = path_faultless path (finds path (assign None) (λ p. event.Create path false)) tt
   course_faultless (line.Delete path) = path_faultless path (finds path ask (λ p. event.Delete path)) tt
-  course_faultless (line.Begin path None) = shut_faultless (with_path path (finds path ask (λ p. event.Begin path (seen_of s p)))) (path_faultless path (finds path ask (λ p. event.Begin path (seen_of s p))) tt)
+  course_faultless (line.Begin path from) = shut_faultless (with_path path (finds path ask (λ p. event.Begin path (seen_from s p from)))) (path_faultless path (finds path ask (λ p. event.Begin path (seen_from s p from))) tt)
   course_faultless (line.Put kind content) = open_faultless (λ o. alone (put s o kind (content_of content))) (λ o. put_faultless o kind (content_of content))
   course_faultless (line.Set name old new) =
       open_faultless (λ o. with_ref name (with_old s o name old (set s o name new)))

@@ -45,7 +45,7 @@ requests_of number (line ∷ lines) = and_then number (request_of line) (request
 abbrev pub is_built : Form → Bool
 is_built (forms.Create path None) = true
 is_built (forms.Delete path) = true
-is_built (forms.Begin path None) = true
+is_built (forms.Begin path from) = true
 is_built (forms.Put kind content) = true
 is_built (forms.Set name old new) = true
 is_built (forms.Verify name old) = true

@@ -26,7 +26,7 @@ fn is_built(form: &Form) -> bool
         form,
         Form::Create { near: None, .. }
             | Form::Delete { .. }
-            | Form::Begin { from: None, .. }
+            | Form::Begin { .. }
             | Form::Put { .. }
             | Form::Set { .. }
             | Form::Verify { .. }

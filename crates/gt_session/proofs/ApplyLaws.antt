@@ -46,8 +46,7 @@ module _ (s : Session) (form : Form) (partition n : ℕ) (is : form ≡ line.App
 pub has_so : (s : Session) (form : Form) → has_course form ≡ true → course s form ≡ None → ⊥
 has_so s (line.Create path None) has none = absurd cc
 has_so s (line.Create path (Some near)) has none = absurd (cc has)
-has_so s (line.Begin path None) has none = absurd cc
-has_so s (line.Begin path (Some seen)) has none = absurd (cc has)
+has_so s (line.Begin path from) has none = absurd cc
 has_so s (line.Apply partition n) has none = by (can_apply partition n) has none
   where
     by : (can : Bool) → can ≡ true → cond can (Some (asks partition (Apply n))) None ≡ None → ⊥

@@ -18,8 +18,8 @@ use Rattle.gt_pins.specs.Ends.{ends}
 use Rattle.gt_script.specs.declared.form.Form.{Form}
 use Rattle.gt_script.specs.declared.form.Form.TheVariants as line
 use Rattle.gt_stage.specs.Staging.{Holding, own_ref, own_record, is_over_refs, is_over_bytes, staged_set, staged_check, staged_put}
-use Rattle.gt_session.specs.Sessions.{Open, Session, forgotten, seen_of, told}
-use Rattle.gt_session.specs.Courses.{Turned, Course, MapEvent, ask, assign, alone, finds, asks, reads, refuses, with_path, with_ref, staged, put_record, refusal_of, put, set, check, old_in, with_old, value_of, get, list_in, cat, content_of, can_apply, course, after_event}
+use Rattle.gt_session.specs.Sessions.{Open, Session, forgotten, told}
+use Rattle.gt_session.specs.Courses.{Turned, Course, MapEvent, ask, assign, alone, finds, asks, reads, refuses, with_path, with_ref, staged, put_record, refusal_of, put, set, check, old_in, with_old, value_of, get, list_in, cat, content_of, can_apply, course, after_event, seen_from}
 use Rattle.gt_session.specs.Calls.{Takes, Makes, Answers, Follows, Does}
 
 -- ---- a course that leaves the number
@@ -91,7 +91,7 @@ apply_keeps s partition n false = tt
 course_keeps : (s : Session) (form : Form) → KeepsIf s (course s form)
 course_keeps s (line.Create path None) = path_keeps s (bad_path path) (finds path (assign None) (λ p. event.Create path false)) tt
 course_keeps s (line.Delete path) = path_keeps s (bad_path path) (finds path ask (λ p. event.Delete path)) tt
-course_keeps s (line.Begin path None) = shut_keeps s s.open (with_path path (finds path ask (λ p. event.Begin path (seen_of s p)))) (path_keeps s (bad_path path) (finds path ask (λ p. event.Begin path (seen_of s p))) tt)
+course_keeps s (line.Begin path from) = shut_keeps s s.open (with_path path (finds path ask (λ p. event.Begin path (seen_from s p from)))) (path_keeps s (bad_path path) (finds path ask (λ p. event.Begin path (seen_from s p from))) tt)
 course_keeps s (line.Put kind content) = open_keeps s s.open (λ o. alone (put s o kind (content_of content))) (λ o. put_number s o kind (content_of content))
 course_keeps s (line.Set name old new) =
     open_keeps s s.open (λ o. with_ref name (with_old s o name old (set s o name new))) (λ o.

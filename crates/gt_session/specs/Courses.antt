@@ -1,5 +1,5 @@
 -- What a line of a session comes to: an answer of its own, or a call of a partition.
-use Rattle.std.specs.Prelude.{ℕ, Bool, true, false, nat_eq, nat_le, ◌&&◌, List, [], ◌++◌, length, map as map_list, Option, Some, None, Result, Ok, Err, codes, bytes_eq, if◌then◌else◌}
+use Rattle.std.specs.Prelude.{ℕ, Bool, true, false, nat_eq, nat_le, ◌&&◌, List, [], ◌++◌, length, max, map as map_list, Option, Some, None, Result, Ok, Err, codes, bytes_eq, if◌then◌else◌}
 use Rattle.std.specs.FinMap as map
 use Rattle.hex.specs.Hex.{decode_of}
 use Rattle.hex.specs.declared.error.FromHexError.{FromHexError}
@@ -127,6 +127,17 @@ list_in s o prefix done = (Ok done, s)
 abbrev pub cat : Session → Open → List ℕ → Course
 cat s o name = elim (own_record o.stage.staged.records name) [ Some whole ↦ alone (Ok (Object whole), s) | None ↦ asks o.partition (event.Cat o.pin name) ]
 
+-- ---- the position that a transaction begins from
+
+-- the later of a position and the one that a line names, where it names one
+abbrev pub later_of : ℕ → Option ℕ → ℕ
+later_of seen None = seen
+later_of seen (Some from) = max seen from
+
+-- what has to be seen of a partition: what the session has seen of it, and the position that the line names
+abbrev pub seen_from : Session → ℕ → Option ℕ → ℕ
+seen_from s partition from = later_of (seen_of s partition) from
+
 -- ---- an application of a log
 
 -- whether so many entries of a partition can be applied: 1 to 16, of the one partition that is there
@@ -139,7 +150,7 @@ can_apply partition n = nat_eq partition 1 && nat_le 1 n && nat_le n 16
 abbrev pub course : Session → Form → Option Course
 course s (line.Create path None) = Some (with_path path (finds path (assign None) (λ p. event.Create path false)))
 course s (line.Delete path) = Some (with_path path (finds path ask (λ p. event.Delete path)))
-course s (line.Begin path None) = Some (unless_open s (with_path path (finds path ask (λ p. event.Begin path (seen_of s p)))))
+course s (line.Begin path from) = Some (unless_open s (with_path path (finds path ask (λ p. event.Begin path (seen_from s p from)))))
 course s (line.Put kind content) = Some (with_open s (λ o. alone (put s o kind (content_of content))))
 course s (line.Set name old new) = Some (with_open s (λ o. with_ref name (with_old s o name old (set s o name new))))
 course s (line.Verify name old) = Some (with_open s (λ o. with_ref name (with_old s o name old (check s o name))))
@@ -155,7 +166,7 @@ course s form = None
 abbrev pub has_course : Form → Bool
 has_course (line.Create path None) = true
 has_course (line.Delete path) = true
-has_course (line.Begin path None) = true
+has_course (line.Begin path from) = true
 has_course (line.Put kind content) = true
 has_course (line.Set name old new) = true
 has_course (line.Verify name old) = true

@@ -1,5 +1,6 @@
 ghost use Rattle.std.specs.Prelude.{◌≡◌, ◌-◌, max, slice_index};
 ghost use Rattle.gt_model.specs.Histories.{done_position, position};
+ghost use Rattle.gt_session.specs.Courses.{later_of};
 ghost use Rattle.gt_session.specs.Sessions.{IsPartition, heard};
 
 use gt_model::{Answer, Done};
@@ -33,11 +34,23 @@ fn later(seen: u64, answer: &Answer) -> u64
 }
 
 /// The greatest position that was seen of a partition.
-pub(crate) fn seen_of(seen: &[u64; 8], partition: u8) -> u64
+fn seen_of(seen: &[u64; 8], partition: u8) -> u64
     requires { IsPartition partition }
     ensures { result ≡ slice_index seen.now (partition - 1) }
 {
     seen[partition as usize - 1]
+}
+
+/// The later of the greatest position that was seen of a partition and the one that a line names, if it names one.
+pub(crate) fn seen_from(seen: &[u64; 8], partition: u8, from: Option<u64>) -> u64
+    requires { IsPartition partition }
+    ensures { result ≡ later_of (slice_index seen.now (partition - 1)) from }
+{
+    let seen = seen_of(seen, partition);
+    match from {
+        None => seen,
+        Some(position) => seen.max(position),
+    }
 }
 
 /// An answer of a partition was heard.

@@ -65,7 +65,7 @@ impl<T: Numbered> Session<T> {
         match form {
             Form::Create { path, near: None } => self.create(alloc, parts, line, path.as_slice()),
             Form::Delete { path } => self.delete(alloc, parts, line, path.as_slice()),
-            Form::Begin { path, from: None } => self.begin(alloc, parts, line, path.as_slice()),
+            Form::Begin { path, from } => self.begin(alloc, parts, line, path.as_slice(), *from),
             Form::Put { kind, content } => self.put(alloc, *kind, content.as_slice()),
             Form::Set { name, old, new } => self.set(
                 alloc,

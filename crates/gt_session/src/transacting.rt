@@ -2,11 +2,11 @@
 ghost use Rattle.std.specs.Prelude.{◌≡◌, false, None, Some, IfErr};
 ghost use Rattle.gt_model.specs.declared.event.Event.{Event};
 ghost use Rattle.gt_model.specs.declared.refusal.Refusal.{Refusal};
-ghost use Rattle.gt_session.specs.Sessions.{Open, Session as Seen, IsPartition, pass_in, seen_of};
-ghost use Rattle.gt_session.specs.Courses.{with_open, with_path, unless_open, finds, asks, ask, assign};
+ghost use Rattle.gt_session.specs.Sessions.{Open, Session as Seen, IsPartition, pass_in};
+ghost use Rattle.gt_session.specs.Courses.{with_open, with_path, unless_open, finds, asks, ask, assign, seen_from};
 ghost use Rattle.gt_session.specs.Calls.{Takes, Answers, IsHeld, LeavesOthers};
 
-use crate::positions::{hear, seen_of};
+use crate::positions::{hear, seen_from};
 use crate::words::path_of;
 use crate::{Numbered, Parts, Session};
 use gt_model::{Answer, Refusal, Who};
@@ -74,16 +74,18 @@ impl<T: Numbered> Session<T> {
         answer
     }
 
-    /// Begins a transaction, with nothing staged.
+    /// Begins a transaction, with nothing staged: at the front, which has to be at or past what the session has seen of the
+    /// partition, and at or past the position that the line names.
     pub(crate) fn begin<P: Parts<Pass = T>>(
         &mut self,
         alloc: Global,
         parts: &mut P,
         line: u32,
         path: &[u8],
+        from: Option<u64>,
     ) -> Answer
         requires held { IsHeld (pass_in self.old) (P.live parts.old) }
-        ensures takes { Takes P.did P.mapped (record { session = self.old.number; line = line }) self.old (unless_open self.old (with_path path.now (finds path.now ask (λ p. Event.Begin path.now (seen_of self.old p))))) (result, self.new) parts.old parts.new }
+        ensures takes { Takes P.did P.mapped (record { session = self.old.number; line = line }) self.old (unless_open self.old (with_path path.now (finds path.now ask (λ p. Event.Begin path.now (seen_from self.old p from))))) (result, self.new) parts.old parts.new }
         ensures passes { LeavesOthers (pass_in self.old) (pass_in self.new) (P.live parts.old) (P.live parts.new) }
     {
         if self.pass.is_some() {
@@ -102,7 +104,7 @@ impl<T: Numbered> Session<T> {
             Ok(None) => return Err(Refusal::NoRepository),
             Err(refusal) => return Err(refusal),
         };
-        self.begin_there(alloc, parts, partition, who, &path)
+        self.begin_there(alloc, parts, partition, who, &path, from)
     }
 
     /// Begins a transaction in a partition, where nothing is open.
@@ -113,14 +115,15 @@ impl<T: Numbered> Session<T> {
         partition: u8,
         who: Who,
         path: &RepoPath,
+        from: Option<u64>,
     ) -> Answer
         requires partition { IsPartition partition }
         requires home { P.home parts.old path.now ≡ Some partition }
         requires shut { self.old.open ≡ None }
-        ensures answers { Answers P.did P.mapped who self.old partition (Event.Begin path.now (seen_of self.old partition)) (result, self.new) parts.old parts.new }
+        ensures answers { Answers P.did P.mapped who self.old partition (Event.Begin path.now (seen_from self.old partition from)) (result, self.new) parts.old parts.new }
         ensures passes { LeavesOthers None (pass_in self.new) (P.live parts.old) (P.live parts.new) }
     {
-        let seen = seen_of(&self.seen, partition);
+        let seen = seen_from(&self.seen, partition, from);
         let answer = parts.begin(alloc, partition, who, path, seen, &mut self.pass);
         self.partition = partition;
         self.stage = Stage::new(alloc);

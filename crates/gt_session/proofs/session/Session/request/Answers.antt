@@ -1,8 +1,7 @@
 use Rattle.std.proofs.Common.{◌≡◌, false, None, refl, rules}
 use Rattle.gt_model.specs.declared.event.Event.TheVariants as event
 use Rattle.gt_script.specs.declared.form.Form.TheVariants as line
-use Rattle.gt_session.specs.Sessions.{seen_of}
-use Rattle.gt_session.specs.Courses.{with_path, with_open, unless_open, finds, reads, ask, assign, list_in}
+use Rattle.gt_session.specs.Courses.{with_path, with_open, unless_open, finds, reads, ask, assign, list_in, seen_from}
 use Rattle.gt_session.proofs.ApplyLaws.{only_of, does_apply}
 use Rattle.gt_session.proofs.CourseLaws.{does_as}
 use Rattle.gt_session.proofs.session.Session.request.Goals as goal
@@ -21,13 +20,12 @@ returns-in-Delete-clause-does g c =
     let s = c.args.self.now in
     does_as g.P.Parts.did g.P.Parts.mapped _ s _ _ _ c.args.form.now (line.Delete i.path) (λ w. with_path w (finds w ask (λ p. event.Delete w))) i.path _ i.is refl c.as_slice-in-Delete.ensures c.delete.ensures.takes
 
-pub returns-in-Begin-default-None-clause-does : goal.returns-in-Begin-default-None-clause-does
-returns-in-Begin-default-None-clause-does g c =
-    let i = c.in-Begin-default-None in
+pub returns-in-Begin-clause-does : goal.returns-in-Begin-clause-does
+returns-in-Begin-clause-does g c =
+    let i = c.in-Begin in
     let s = c.args.self.now in
-    let is : c.args.form.now ≡ line.Begin i.path None = search rules in
-    does_as g.P.Parts.did g.P.Parts.mapped _ s _ _ _ c.args.form.now (line.Begin i.path None) (λ w. unless_open s (with_path w (finds w ask (λ p. event.Begin w (seen_of s p))))) i.path _
-    is refl c.as_slice-in-Begin-default-None.ensures c.begin.ensures.takes
+    does_as g.P.Parts.did g.P.Parts.mapped _ s _ _ _ c.args.form.now (line.Begin i.path i.from) (λ w. unless_open s (with_path w (finds w ask (λ p. event.Begin w (seen_from s p i.from))))) i.path _
+    i.is refl c.as_slice-in-Begin.ensures c.begin.ensures.takes
 
 pub returns-in-List-clause-does : goal.returns-in-List-clause-does
 returns-in-List-clause-does g c =
