@@ -13,7 +13,7 @@ use Rattle.gt_objset.specs.Places.{head_in, pool_in, seen, head_after, own_after
 use Rattle.gt_objset.specs.declared.head.HeadChange.{HeadChange}
 use Rattle.gt_objset.specs.Track.{Track, is_pool_of}
 use Rattle.gt_objset.specs.Table.{Table, head_in_slot, own_in_slot, head_at, own_at, place_at, Adds}
-use Rattle.gt_objset.specs.Agree.{ArePlaced, Agrees}
+use Rattle.gt_objset.specs.Agree.{Agrees, ArePlaced, ArePlacedBy}
 use Rattle.gt_objset.proofs.TableLaws.{PoolSets, table}
 use Rattle.gt_objset.proofs.ContentLaws.{head_of_repo, head_in-after, placed-after}
 
@@ -41,16 +41,16 @@ whole_part f g p log e s l = take_all (p - g) (log ++ e ∷ []) (omega (arith, l
 old_part : (f p : ℕ) (log : List Entry) → p ≡ f + length log → take (p - f) log ≡ log
 old_part f p log l = take_all (p - f) log (omega arith)
 
-module _ (old new : Table) (base : Content) (places : List ℕ → List ℕ → Option Place) (log : List Entry) (e : Entry) (h : Agrees old base places log) (a : Adds e old new) where
+module _ (old new : Table) (base : Content) (log : List Entry) (e : Entry) (h : Agrees old base log) (a : Adds e old new) where
   heads_here : (path : List ℕ) → head_at old old.front path ≡ head_in (after_all base log) path
   heads_here path =
       let i : old.front ≡ old.floor + length log = h.front in
       h.heads old.front path (omega arith) (omega arith) ∙ ap (λ es. head_in (after_all base es) path) (old_part old.floor old.front log i)
 
-  own_now : (path x : List ℕ) → own_at old old.front path x ≡ places_after base places log path x
-  own_now path x =
+  own_here : ArePlaced (after_all base log) (own_at old old.front)
+  own_here path x =
       let i : old.front ≡ old.floor + length log = h.front in
-      h.own old.front path x (omega arith) (omega arith) ∙ ap (λ es. places_after base places es path x) (old_part old.floor old.front log i)
+      h.own old.front path x (omega arith) (omega arith) ∙ ap (λ es. is_some (own (after_all base es) path x)) (old_part old.floor old.front log i)
 
   head_first : (p : ℕ) (path : List ℕ) → old.floor ≤ p → p ≤ old.front → head_at new p path ≡ head_in (at new.floor base (log ++ e ∷ []) p) path
   head_first p path low l =
@@ -65,24 +65,22 @@ module _ (old new : Table) (base : Content) (places : List ℕ → List ℕ → 
       ∙ sym (ap (λ c. head_in c path) (after_all-append base log (e ∷ [])))
       ∙ sym (ap (λ es. head_in (after_all base es) path) (whole_part old.floor new.floor p log e a.floor (omega arith)))
 
-  own_first : (p : ℕ) (path x : List ℕ) → old.floor ≤ p → p ≤ old.front → own_at new p path x ≡ places_at new.floor base places (log ++ e ∷ []) p path x
+  own_first : (p : ℕ) (path x : List ℕ) → old.floor ≤ p → p ≤ old.front → is_some (own_at new p path x) ≡ is_some (own (at new.floor base (log ++ e ∷ []) p) path x)
   own_first p path x low l =
       let i : old.front ≡ old.floor + length log = h.front in
-      a.own_before p path x l ∙ h.own p path x low l ∙ ap (λ es. places_after base places es path x) (earlier_part old.floor new.floor p log e a.floor (omega arith))
+      ap is_some (a.own_before p path x l) ∙ h.own p path x low l ∙ ap (λ es. is_some (own (after_all base es) path x)) (earlier_part old.floor new.floor p log e a.floor (omega arith))
 
-  own_second : (p : ℕ) (path x : List ℕ) → p ≡ old.front + 1 → own_at new p path x ≡ places_at new.floor base places (log ++ e ∷ []) p path x
+  own_second : (p : ℕ) (path x : List ℕ) → p ≡ old.front + 1 → is_some (own_at new p path x) ≡ is_some (own (at new.floor base (log ++ e ∷ []) p) path x)
   own_second p path x l =
       let i : old.front ≡ old.floor + length log = h.front in
-      let own_eq : own_at old old.front ≡ places_after base places log = λ i path x. own_now path x i in
-      ap (λ n. own_at new n path x) l ∙ a.own_next path x
-      ∙ ap (λ o. own_after e o (own_at old old.front) path x) (heads_here e.path)
-      ∙ ap (λ own. own_after e (head_in (after_all base log) e.path) own path x) own_eq
-      ∙ sym (ap (λ own. own path x) (places_after-append base places log e))
-      ∙ sym (ap (λ es. places_after base places es path x) (whole_part old.floor new.floor p log e a.floor (omega arith)))
+      ap (λ n. is_some (own_at new n path x)) l ∙ ap is_some (a.own_next path x)
+      ∙ ap (λ o. is_some (own_after e o (own_at old old.front) path x)) (heads_here e.path)
+      ∙ placed-after (after_all base log) (own_at old old.front) own_here e path x
+      ∙ sym (ap (λ c. is_some (own c path x)) (after_all-append base log (e ∷ [])))
+      ∙ sym (ap (λ es. is_some (own (after_all base es) path x)) (whole_part old.floor new.floor p log e a.floor (omega arith)))
 
-  pub agrees_more : Agrees new base places (log ++ e ∷ [])
+  pub agrees_more : Agrees new base (log ++ e ∷ [])
   agrees_more = record {
-    placed = h.placed;
     front = let f : new.front ≡ old.front + 1 = a.front in let g : new.floor ≡ old.floor = a.floor in let i : old.front ≡ old.floor + length log = h.front in omega (arith, length-append log (e ∷ []));
     heads = λ p path low high.
         let f : new.front ≡ old.front + 1 = a.front in
@@ -95,6 +93,37 @@ module _ (old new : Table) (base : Content) (places : List ℕ → List ℕ → 
         let low1 : old.floor ≤ p = omega arith in
         ⊎_elim (λ (l : p ≤ old.front). own_first p path x low1 l) (λ (l : p ≡ old.front + 1). own_second p path x l) (below_or_next p old.front (omega arith));
   }
+
+  module _ (places : List ℕ → List ℕ → Option Place) (k : ArePlacedBy old base places log) where
+    places_here : (path x : List ℕ) → own_at old old.front path x ≡ places_after base places log path x
+    places_here path x =
+        let i : old.front ≡ old.floor + length log = h.front in
+        k.own old.front path x (omega arith) (omega arith) ∙ ap (λ es. places_after base places es path x) (old_part old.floor old.front log i)
+
+    place_first : (p : ℕ) (path x : List ℕ) → old.floor ≤ p → p ≤ old.front → own_at new p path x ≡ places_at new.floor base places (log ++ e ∷ []) p path x
+    place_first p path x low l =
+        let i : old.front ≡ old.floor + length log = h.front in
+        a.own_before p path x l ∙ k.own p path x low l ∙ ap (λ es. places_after base places es path x) (earlier_part old.floor new.floor p log e a.floor (omega arith))
+
+    place_second : (p : ℕ) (path x : List ℕ) → p ≡ old.front + 1 → own_at new p path x ≡ places_at new.floor base places (log ++ e ∷ []) p path x
+    place_second p path x l =
+        let i : old.front ≡ old.floor + length log = h.front in
+        let own_eq : own_at old old.front ≡ places_after base places log = λ i path x. places_here path x i in
+        ap (λ n. own_at new n path x) l ∙ a.own_next path x
+        ∙ ap (λ o. own_after e o (own_at old old.front) path x) (heads_here e.path)
+        ∙ ap (λ own. own_after e (head_in (after_all base log) e.path) own path x) own_eq
+        ∙ sym (ap (λ own. own path x) (places_after-append base places log e))
+        ∙ sym (ap (λ es. places_after base places es path x) (whole_part old.floor new.floor p log e a.floor (omega arith)))
+
+    pub placed_more : ArePlacedBy new base places (log ++ e ∷ [])
+    placed_more = record {
+      placed = k.placed;
+      own = λ p path x low high.
+          let f : new.front ≡ old.front + 1 = a.front in
+          let g : new.floor ≡ old.floor = a.floor in
+          let low1 : old.floor ≤ p = omega arith in
+          ⊎_elim (λ (l : p ≤ old.front). place_first p path x low1 l) (λ (l : p ≡ old.front + 1). place_second p path x l) (below_or_next p old.front (omega arith));
+    }
 
 -- ---- what a table shows
 
@@ -126,7 +155,7 @@ module _ (c : Content) (places : List ℕ → List ℕ → Option Place) (h : Ar
       ∙ ap (λ b. is_some (own c path x) || b) (ap (λ o. is_some (and_then o (λ p. places p x))) (member-head (map.get c path)) ∙ pool_shown (pool_of c path) x)
       ∙ sym (is_some-or (own c path x) (and_then (pool_of c path) (λ p. own c p x)))
 
-module _ (t : Table) (base : Content) (places : List ℕ → List ℕ → Option Place) (log : List Entry) (p : ℕ) (h : Agrees t base places log) (low : t.floor ≤ p) (high : p ≤ t.front) where
+module _ (t : Table) (base : Content) (log : List Entry) (p : ℕ) (h : Agrees t base log) (low : t.floor ≤ p) (high : p ≤ t.front) where
   pub shows_repo : (path : List ℕ) → is_some (head_at t p path) ≡ has_repo (at t.floor base log p) path
   shows_repo path = ap is_some (h.heads p path low high) ∙ is_some-head (map.get (at t.floor base log p) path)
 
@@ -137,16 +166,16 @@ module _ (t : Table) (base : Content) (places : List ℕ → List ℕ → Option
   shows_pool path = ap pool_in (h.heads p path low high) ∙ member-head (map.get (at t.floor base log p) path)
 
   pub shows_own : (path x : List ℕ) → is_some (own_at t p path x) ≡ is_some (own (at t.floor base log p) path x)
-  shows_own path x = ap is_some (h.own p path x low high) ∙ placed_all base places (take (p - t.floor) log) h.placed path x
-
-  pub shows_place : (path x : List ℕ) → place_at t p path x ≡ seen (head_in (at t.floor base log p) path) (places_at t.floor base places log p) path x
-  shows_place path x =
-      let own_eq : own_at t p ≡ places_at t.floor base places log p = λ i path x. h.own p path x low high i in
-      ap (λ o. seen o (own_at t p) path x) (h.heads p path low high)
-      ∙ ap (λ own. seen (head_in (at t.floor base log p) path) own path x) own_eq
+  shows_own path x = h.own p path x low high
 
   pub shows_visible : (path x : List ℕ) → is_some (place_at t p path x) ≡ is_visible (at t.floor base log p) path x
-  shows_visible path x = ap is_some (shows_place path x) ∙ seen_visible (at t.floor base log p) (places_at t.floor base places log p) (placed_all base places (take (p - t.floor) log) h.placed) path x
+  shows_visible path x = ap (λ o. is_some (seen o (own_at t p) path x)) (h.heads p path low high) ∙ seen_visible (at t.floor base log p) (own_at t p) shows_own path x
+
+  pub shows_place : (places : List ℕ → List ℕ → Option Place) → ArePlacedBy t base places log → (path x : List ℕ) → place_at t p path x ≡ seen (head_in (at t.floor base log p) path) (places_at t.floor base places log p) path x
+  shows_place places k path x =
+      let own_eq : own_at t p ≡ places_at t.floor base places log p = λ i path x. k.own p path x low high i in
+      ap (λ o. seen o (own_at t p) path x) (h.heads p path low high)
+      ∙ ap (λ own. seen (head_in (at t.floor base log p) path) own path x) own_eq
 
 -- ---- the empty table
 
@@ -157,13 +186,42 @@ take_none : (n : ℕ) → take n no_entries ≡ no_entries
 take_none zero = refl
 take_none (suc n) = refl
 
-pub empty_agrees : (floor : ℕ) (es : List (List ℕ × Track)) (sets : PoolSets) (head : HeadChange) (puts : List (List ℕ × Option Place)) → es ≡ [] → Agrees (table floor floor es sets head puts) nothing (λ path x. None) []
-empty_agrees floor es sets head puts e = record {
-  placed = λ path x. ap (λ o. is_some (and_then o (λ (r : Repo). map.get r.own x))) (sym (get-empty key_cmp path));
-  front = omega arith;
-  heads = λ p path low high. ap (λ s. head_in_slot s p) (none path) ∙ sym (ap (λ es. head_in (after_all nothing es) path) (take_none (p - floor)) ∙ ap (option_map head_of_repo) (get-empty key_cmp path));
-  own = λ p path x low high. ap (λ s. own_in_slot s p x) (none path) ∙ sym (ap (λ es. places_after nothing (λ path x. None) es path x) (take_none (p - floor)));
-}
-  where
-    none : (path : List ℕ) → map.get (from_entries {R = key_cmp} es) path ≡ None
-    none path = ap (λ fs. map.get (from_entries {R = key_cmp} fs) path) e ∙ get-empty key_cmp path
+module _ (floor : ℕ) (es : List (List ℕ × Track)) (sets : PoolSets) (head : HeadChange) (puts : List (List ℕ × Option Place)) (e : es ≡ []) where
+  none_there : (path : List ℕ) → map.get (from_entries {R = key_cmp} es) path ≡ None
+  none_there path = ap (λ fs. map.get (from_entries {R = key_cmp} fs) path) e ∙ get-empty key_cmp path
+
+  none_own : (path x : List ℕ) → is_some (own nothing path x) ≡ false
+  none_own path x = ap (λ o. is_some (and_then o (λ (r : Repo). map.get r.own x))) (get-empty key_cmp path)
+
+  pub empty_agrees : Agrees (table floor floor es sets head puts) nothing []
+  empty_agrees = record {
+    front = omega arith;
+    heads = λ p path low high. ap (λ s. head_in_slot s p) (none_there path) ∙ sym (ap (λ es. head_in (after_all nothing es) path) (take_none (p - floor)) ∙ ap (option_map head_of_repo) (get-empty key_cmp path));
+    own = λ p path x low high. ap (λ s. is_some (own_in_slot s p x)) (none_there path) ∙ sym (ap (λ es. is_some (own (after_all nothing es) path x)) (take_none (p - floor)) ∙ none_own path x);
+  }
+
+  pub empty_placed : ArePlacedBy (table floor floor es sets head puts) nothing (λ path x. None) []
+  empty_placed = record {
+    placed = λ path x. sym (none_own path x);
+    own = λ p path x low high. ap (λ s. own_in_slot s p x) (none_there path) ∙ sym (ap (λ es. places_after nothing (λ path x. None) es path x) (take_none (p - floor)));
+  }
+
+-- ---- a floor that was seeded
+
+seeded_part : (t : Table) (p : ℕ) → t.front ≡ t.floor → t.floor ≤ p → p ≤ t.front → p ≡ t.floor
+seeded_part t p e low high = omega arith
+
+module _ (t : Table) (base : Content) (places : List ℕ → List ℕ → Option Place) (e : t.front ≡ t.floor) (h : ArePlaced base places)
+    (heads : (path : List ℕ) → head_at t t.floor path ≡ head_in base path) (own_here : (path x : List ℕ) → own_at t t.floor path x ≡ places path x) where
+  pub seeded_agrees : Agrees t base []
+  seeded_agrees = record {
+    front = omega arith;
+    heads = λ p path low high. ap (λ q. head_at t q path) (seeded_part t p e low high) ∙ heads path ∙ sym (ap (λ es. head_in (after_all base es) path) (take_none (p - t.floor)));
+    own = λ p path x low high. ap (λ q. is_some (own_at t q path x)) (seeded_part t p e low high) ∙ ap is_some (own_here path x) ∙ h path x ∙ sym (ap (λ es. is_some (own (after_all base es) path x)) (take_none (p - t.floor)));
+  }
+
+  pub seeded_placed : ArePlacedBy t base places []
+  seeded_placed = record {
+    placed = h;
+    own = λ p path x low high. ap (λ q. own_at t q path x) (seeded_part t p e low high) ∙ own_here path x ∙ sym (ap (λ es. places_after base places es path x) (take_none (p - t.floor)));
+  }

@@ -11,3 +11,6 @@ pub mod ListedLaws
 pub mod SeedLaws
 pub mod MergeLaws
 pub mod MemberLaws
+pub mod MovedLaws
+pub mod RetainLaws
+pub mod RaisedLaws

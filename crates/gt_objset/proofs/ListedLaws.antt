@@ -58,7 +58,7 @@ absent None e = refl
 absent (Some r) e = let no : ⊥ = cc in absurd no
 
 module _ (floor front : ℕ) (es : List (List ℕ × Track)) (sets : PoolSets) (head : HeadChange) (puts : List (List ℕ × Option Place)) (p : ℕ) (low : floor ≤ p) (high : p ≤ front)
-    (base : Content) (places : List ℕ → List ℕ → Option Place) (log : List Entry) (h : Agrees (table floor front es sets head puts) base places log) where
+    (base : Content) (log : List Entry) (h : Agrees (table floor front es sets head puts) base log) where
   abbrev now : Content
   now = at floor base log p
 
@@ -73,7 +73,7 @@ module _ (floor front : ℕ) (es : List (List ℕ × Track)) (sets : PoolSets) (
       let tests : (λ q. is_some (head_in_slot (at_key es q) p)) ≡ (λ q. is_some (head_in_slot (map.get repos q) p)) = λ i q. ap (λ w. is_some (head_in_slot w p)) (sym (get_key es q)) i in
       ap (filter (λ q. is_some (head_in_slot (at_key es q) p))) (tree_keys s)
       ∙ ap (λ test. filter test (map.keys repos)) tests
-      ∙ listed repos (λ q. is_some (head_in_slot (map.get repos q) p)) now (λ q. there_passed (map.get repos q) p ∙ shows_repo (table floor front es sets head puts) base places log p h low high q)
+      ∙ listed repos (λ q. is_some (head_in_slot (map.get repos q) p)) now (λ q. there_passed (map.get repos q) p ∙ shows_repo (table floor front es sets head puts) base log p h low high q)
 
   members_both : (pool : List ℕ) → IsStrictlySortedBy key_cmp (list_map (λ e. e.0) es) → filter (λ q. is_this (pool_in (head_in_slot (at_key es q) p)) pool) (list_map (λ e. e.0) es) ≡ filter (λ q. is_this (pool_of now q) pool) (map.keys now)
   members_both pool s =
@@ -81,7 +81,7 @@ module _ (floor front : ℕ) (es : List (List ℕ × Track)) (sets : PoolSets) (
       ap (filter (λ q. is_this (pool_in (head_in_slot (at_key es q) p)) pool)) (tree_keys s)
       ∙ ap (λ test. filter test (map.keys repos)) tests
       ∙ listed_both repos (λ q. is_this (pool_in (head_in_slot (map.get repos q) p)) pool) now (λ q. is_this (pool_of now q) pool)
-      (λ q. member_passed (map.get repos q) p pool ∙ ap (λ o. is_this o pool) (shows_pool (table floor front es sets head puts) base places log p h low high q) ∙ sym (repo_passed (map.get now q) pool))
+      (λ q. member_passed (map.get repos q) p pool ∙ ap (λ o. is_this o pool) (shows_pool (table floor front es sets head puts) base log p h low high q) ∙ sym (repo_passed (map.get now q) pool))
 
   pub members_listed : (pool : List ℕ) → IsStrictlySortedBy key_cmp (list_map (λ e. e.0) es) → filter (λ q. is_this (pool_in (head_in_slot (at_key es q) p)) pool) (list_map (λ e. e.0) es) ≡ members now pool
   members_listed pool s = members_both pool s ∙ sym (keys_of_values (λ (o : Option Repo). is_this (and_then o (λ r. r.pool)) pool) now)
@@ -96,7 +96,7 @@ module _ (floor front : ℕ) (es : List (List ℕ × Track)) (sets : PoolSets) (
   own_shown : (path x : List ℕ) (slot : Option Track) → slot ≡ at_key es path → is_some (own_in_slot slot p x) ≡ is_some (map.get (own_of (map.get now path)) x)
   own_shown path x slot e =
       ap (λ s. is_some (own_in_slot s p x)) (e ∙ sym (get_key es path))
-      ∙ shows_own (table floor front es sets head puts) base places log p h low high path x
+      ∙ shows_own (table floor front es sets head puts) base log p h low high path x
       ∙ own_there (map.get now path) x
 
   pub own_listed : (path : List ℕ) (t : Track) → Some t ≡ at_key es path → filter (λ x. is_some (own_in_track t p x)) (map.keys t.objects) ≡ own_names now path
@@ -104,11 +104,11 @@ module _ (floor front : ℕ) (es : List (List ℕ × Track)) (sets : PoolSets) (
 
   pub none_listed : (path : List ℕ) → None ≡ at_key es path → [] ≡ own_names now path
   none_listed path e =
-      let gone : map.get now path ≡ None = absent (map.get now path) (sym (shows_repo (table floor front es sets head puts) base places log p h low high path) ∙ ap (λ s. is_some (head_in_slot s p)) (get_key es path ∙ sym e)) in
+      let gone : map.get now path ≡ None = absent (map.get now path) (sym (shows_repo (table floor front es sets head puts) base log p h low high path) ∙ ap (λ s. is_some (head_in_slot s p)) (get_key es path ∙ sym e)) in
       none_names ∙ sym (ap (λ o. map.keys (own_of o)) gone)
 
-pub ok_listed : {A E : Type 0} (res : Result (List A) E) (xs : List A) (D : Content → (List ℕ → List ℕ → Option Place) → List Entry → Type 0) (ys : Content → (List ℕ → List ℕ → Option Place) → List Entry → List A)
-    → ((base : Content) (places : List ℕ → List ℕ → Option Place) (log : List Entry) → D base places log → xs ≡ ys base places log)
-    → IfOk res (λ zs. zs ≡ xs) → IfOk res (λ zs. (base : Content) (places : List ℕ → List ℕ → Option Place) (log : List Entry) → D base places log → zs ≡ ys base places log)
-ok_listed (Ok zs) xs D ys e h = λ base places log d. h ∙ e base places log d
+pub ok_listed : {A E : Type 0} (res : Result (List A) E) (xs : List A) (D : Content → List Entry → Type 0) (ys : Content → List Entry → List A)
+    → ((base : Content) (log : List Entry) → D base log → xs ≡ ys base log)
+    → IfOk res (λ zs. zs ≡ xs) → IfOk res (λ zs. (base : Content) (log : List Entry) → D base log → zs ≡ ys base log)
+ok_listed (Ok zs) xs D ys e h = λ base log d. h ∙ e base log d
 ok_listed (Err r) xs D ys e h = tt

@@ -31,7 +31,7 @@ is_eq-true Less e = cc
 is_eq-true Equal e = refl
 is_eq-true Greater e = cc
 
-same_key : (a b : List ℕ) → eq_by_cmp key_cmp a b ≡ true → a ≡ b
+pub same_key : (a b : List ℕ) → eq_by_cmp key_cmp a b ≡ true → a ≡ b
 same_key a b t = key_cmp-IsAntisymmetric a b (is_eq-true (key_cmp a b) t)
 
 same_list : (a b : List ℕ) → pointwise nat_eq a b ≡ true → a ≡ b
@@ -181,7 +181,7 @@ covered floor front p ss es low k pool q is = sym (notes_at ss q (Some (Some poo
 
 -- ---- the candidates are enough
 
-true_some : (s : Option Track) (p : ℕ) (pool : List ℕ) → is_this (pool_in (head_in_slot s p)) pool ≡ true → is_some s ≡ true
+pub true_some : (s : Option Track) (p : ℕ) (pool : List ℕ) → is_this (pool_in (head_in_slot s p)) pool ≡ true → is_some s ≡ true
 true_some None p pool e = let no : ⊥ = cc in absurd no
 true_some (Some t) p pool e = refl
 

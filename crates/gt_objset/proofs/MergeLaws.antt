@@ -8,7 +8,6 @@ use Rattle.std.specs.FinMap as map
 use Rattle.std.specs.FinMap.{contains_key-keys, get-empty}
 use Rattle.gt_model.specs.declared.entry.Entry.{Entry}
 use Rattle.gt_model.specs.Contents.{key_cmp, Content, own_of, pool_own, pool_of, union}
-use Rattle.gt_objset.specs.declared.place.Place.{Place}
 use Rattle.gt_objset.specs.Lists.{own_names, visible_names}
 use Rattle.gt_objset.proofs.ContentLaws.{get-union}
 use Rattle.gt_objset.proofs.ListLaws.{same_keys, names_are_keys}
@@ -69,12 +68,12 @@ together c path pool names own shared e f g s h =
     ∙ ap (λ p. is_some (option_or (map.get (own_of (map.get c path)) q) (map.get (pool_own c p) q))) e
     ∙ sym (ap is_some (get-union (own_of (map.get c path)) (pool_own c (pool_of c path)) q)))
 
-pub ok_together : {E : Type 0} (res : Result (List (List ℕ)) E) (D : Content → (List ℕ → List ℕ → Option Place) → List Entry → Type 0) (c : Content → List Entry → Content) (path pool : List ℕ) (own shared own_now shared_now : List (List ℕ))
+pub ok_together : {E : Type 0} (res : Result (List (List ℕ)) E) (D : Content → List Entry → Type 0) (c : Content → List Entry → Content) (path pool : List ℕ) (own shared own_now shared_now : List (List ℕ))
     → own_now ≡ own → shared_now ≡ shared
-    → ((base : Content) (places : List ℕ → List ℕ → Option Place) (log : List Entry) → D base places log → Some pool ≡ pool_of (c base log) path)
-    → ((base : Content) (places : List ℕ → List ℕ → Option Place) (log : List Entry) → D base places log → own ≡ own_names (c base log) path)
-    → ((base : Content) (places : List ℕ → List ℕ → Option Place) (log : List Entry) → D base places log → shared ≡ own_names (c base log) pool)
+    → ((base : Content) (log : List Entry) → D base log → Some pool ≡ pool_of (c base log) path)
+    → ((base : Content) (log : List Entry) → D base log → own ≡ own_names (c base log) path)
+    → ((base : Content) (log : List Entry) → D base log → shared ≡ own_names (c base log) pool)
     → IfOk res (λ names. IsStrictlySortedBy key_cmp names) → IfOk res (λ names. (x : List ℕ) → has x names ≡ (has x shared_now || has x own_now))
-    → IfOk res (λ names. (base : Content) (places : List ℕ → List ℕ → Option Place) (log : List Entry) → D base places log → names ≡ visible_names (c base log) path)
+    → IfOk res (λ names. (base : Content) (log : List Entry) → D base log → names ≡ visible_names (c base log) path)
 ok_together (Err e) D c path pool own shared own_now shared_now f g p o t s h = tt
-ok_together (Ok names) D c path pool own shared own_now shared_now f g p o t s h = λ base places log d. together (c base log) path pool names own_now shared_now (p base places log d) (f ∙ o base places log d) (g ∙ t base places log d) s h
+ok_together (Ok names) D c path pool own shared own_now shared_now f g p o t s h = λ base log d. together (c base log) path pool names own_now shared_now (p base log d) (f ∙ o base log d) (g ∙ t base log d) s h

@@ -6,3 +6,5 @@ pub mod Lists
 pub mod Seeds
 pub mod Members
 pub mod Kept
+pub mod Moved
+pub mod Raised

@@ -6,8 +6,10 @@ ghost use Rattle.std.specs.Option.{option_copied};
 ghost use Rattle.std.specs.Ordering.{eq_by_cmp};
 ghost use Rattle.gt_model.specs.Contents.{key_cmp};
 ghost use Rattle.gt_objset.specs.Members.{has_path, notes, NotesMore};
+ghost use Rattle.gt_objset.specs.Raised.{KeepsPaths, KeepsSets, has_paths};
 
 use crate::head::HeadChange;
+use crate::repos::Repos;
 use gt_list::NoMemory;
 use gt_name::RepoPath;
 use std::alloc::Global;
@@ -114,4 +116,19 @@ fn insert_copy(paths: &mut BTreeSet<RepoPath>, path: &RepoPath) -> Result<(), No
         Ok(_) => Ok(()),
         Err(_) => Err(NoMemory),
     }
+}
+
+/// Of each set those stay whose repository is in the table, and of the sets those that have any then.
+pub fn keep_members(members: &mut Members, repos: &Repos)
+    ensures { KeepsSets (λ x. tree.get key_cmp repos.now x) (λ w. tree.get key_cmp members.old w) (λ w. tree.get key_cmp members.new w) }
+{
+    members.retain(move |_, paths| keep_paths(paths, repos));
+}
+
+fn keep_paths(paths: &mut BTreeSet<RepoPath>, repos: &Repos) -> bool
+    ensures kept { KeepsPaths (λ x. tree.get key_cmp repos.now x) paths.old paths.new }
+    ensures stays { result ≡ has_paths paths.new }
+{
+    paths.retain(move |path| repos.contains_key(path));
+    !paths.is_empty()
 }

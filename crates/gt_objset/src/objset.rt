@@ -6,18 +6,21 @@ ghost use Rattle.gt_objset.specs.declared.place.Place.{Place};
 ghost use Rattle.gt_objset.specs.Places.{head_in, pool_in, seen, places_at};
 ghost use Rattle.gt_objset.specs.Track.{is_pool_of};
 ghost use Rattle.gt_objset.specs.Table.{head_at, own_at, place_at, Adds, IsSameTable, IsPrepared};
-ghost use Rattle.gt_objset.specs.Agree.{Agrees};
+ghost use Rattle.gt_objset.specs.Agree.{Agrees, ArePlacedBy};
 ghost use Rattle.gt_objset.specs.Seeds.{SeedsRepo, SeedsObject};
+ghost use Rattle.gt_objset.specs.Moved.{Repoints};
+ghost use Rattle.gt_objset.specs.Raised.{Raises, IsLean};
 ghost use Rattle.gt_objset.specs.Lists.{own_names, members, all_paths, visible_names};
 
 use crate::Place;
 use crate::head::{HeadChange, head_change};
 use crate::in_pool::{least_in_pool, paths_in_pool};
 use crate::listing::paths_there;
-use crate::members::{Members, note, note_seed};
+use crate::members::{Members, keep_members, note, note_seed};
 use crate::merging::in_one;
 use crate::plan::puts_of;
-use crate::repos::{Repos, put_repo, reserve_repo};
+use crate::raising::raise_repos;
+use crate::repos::{Repos, put_repo, repoint_repo, reserve_repo};
 use crate::seeding::{seed_puts, seed_repo};
 use gt_list::{ListOf, NoMemory};
 use gt_model::Entry;
@@ -56,7 +59,8 @@ impl ObjSet {
     /// The empty content, at a position from which on it answers.
     pub fn start(alloc: Global, floor: u64) -> Result<ObjSet, NoMemory>
         ensures floor { IfOk result (λ t. t.floor ≡ floor) }
-        ensures empty { IfOk result (λ t. Agrees t nothing (λ path x. None) []) }
+        ensures empty { IfOk result (λ t. Agrees t nothing []) }
+        ensures placed { IfOk result (λ t. ArePlacedBy t nothing (λ path x. None) []) }
     {
         Ok(ObjSet {
             floor,
@@ -163,12 +167,36 @@ impl ObjSet {
         self.front = position;
     }
 
+    /// The record of an own object stands elsewhere from a position on, where a place of it begins, for as long as it is own.
+    /// It takes no memory. An entry that was prepared is to be prepared again.
+    pub fn repoint(&mut self, at: u64, path: &RepoPath, name: &Name, place: Place)
+        requires from { self.old.floor ≤ at }
+        requires to { at ≤ self.old.front }
+        ensures { Repoints at path.now name.now place self.old self.new }
+    {
+        repoint_repo(&mut self.repos, self.floor, at, path, name, place);
+    }
+
+    /// Raises the position from which on it answers. What only earlier positions needed is dropped: of what was given a
+    /// repository or an object by then only the last is kept, where that counts at the new floor, and no repository or
+    /// object without any. It takes no memory. An entry that was prepared is to be prepared again.
+    pub fn raise(&mut self, to: u64)
+        requires from { self.old.floor ≤ to }
+        requires to { to ≤ self.old.front }
+        ensures raised { Raises to self.old self.new }
+        ensures lean { IsLean self.new }
+    {
+        raise_repos(&mut self.repos, to);
+        keep_members(&mut self.members, &self.repos);
+        self.floor = to;
+    }
+
     /// Whether the content at a position has a repository.
     pub fn has_repo(&self, at: u64, path: &RepoPath) -> bool
         requires from { self.now.floor ≤ at }
         requires to { at ≤ self.now.front }
         ensures table { result ≡ is_some (head_at self.now at path.now) }
-        ensures content { (base : Content) (places : List ℕ → List ℕ → Option Place) (log : List Entry) → Agrees self.now base places log → result ≡ has_repo (content_at self.now.floor base log at) path.now }
+        ensures content { (base : Content) (log : List Entry) → Agrees self.now base log → result ≡ has_repo (content_at self.now.floor base log at) path.now }
     {
         self.there(at, path)
     }
@@ -178,7 +206,7 @@ impl ObjSet {
         requires from { self.now.floor ≤ at }
         requires to { at ≤ self.now.front }
         ensures table { result ≡ is_pool_of (head_at self.now at path.now) }
-        ensures content { (base : Content) (places : List ℕ → List ℕ → Option Place) (log : List Entry) → Agrees self.now base places log → result ≡ is_pool (content_at self.now.floor base log at) path.now }
+        ensures content { (base : Content) (log : List Entry) → Agrees self.now base log → result ≡ is_pool (content_at self.now.floor base log at) path.now }
     {
         self.pool_there(at, path)
     }
@@ -188,7 +216,7 @@ impl ObjSet {
         requires from { self.now.floor ≤ at }
         requires to { at ≤ self.now.front }
         ensures table { option_copied result ≡ pool_in (head_at self.now at path.now) }
-        ensures content { (base : Content) (places : List ℕ → List ℕ → Option Place) (log : List Entry) → Agrees self.now base places log → option_copied result ≡ pool_of (content_at self.now.floor base log at) path.now }
+        ensures content { (base : Content) (log : List Entry) → Agrees self.now base log → option_copied result ≡ pool_of (content_at self.now.floor base log at) path.now }
     {
         self.pool_path(at, path)
     }
@@ -199,8 +227,8 @@ impl ObjSet {
         requires from { self.now.floor ≤ at }
         requires to { at ≤ self.now.front }
         ensures table { result ≡ place_at self.now at path.now name.now }
-        ensures visible { (base : Content) (places : List ℕ → List ℕ → Option Place) (log : List Entry) → Agrees self.now base places log → is_some result ≡ is_visible (content_at self.now.floor base log at) path.now name.now }
-        ensures content { (base : Content) (places : List ℕ → List ℕ → Option Place) (log : List Entry) → Agrees self.now base places log → result ≡ seen (head_in (content_at self.now.floor base log at) path.now) (places_at self.now.floor base places log at) path.now name.now }
+        ensures visible { (base : Content) (log : List Entry) → Agrees self.now base log → is_some result ≡ is_visible (content_at self.now.floor base log at) path.now name.now }
+        ensures content { (base : Content) (places : List ℕ → List ℕ → Option Place) (log : List Entry) → Agrees self.now base log → ArePlacedBy self.now base places log → result ≡ seen (head_in (content_at self.now.floor base log at) path.now) (places_at self.now.floor base places log at) path.now name.now }
     {
         self.seen_place(at, path, name)
     }
@@ -210,7 +238,7 @@ impl ObjSet {
         requires from { self.now.floor ≤ at }
         requires to { at ≤ self.now.front }
         ensures table { result ≡ is_some (place_at self.now at path.now name.now) }
-        ensures content { (base : Content) (places : List ℕ → List ℕ → Option Place) (log : List Entry) → Agrees self.now base places log → result ≡ is_visible (content_at self.now.floor base log at) path.now name.now }
+        ensures content { (base : Content) (log : List Entry) → Agrees self.now base log → result ≡ is_visible (content_at self.now.floor base log at) path.now name.now }
     {
         self.sees(at, path, name)
     }
@@ -219,7 +247,7 @@ impl ObjSet {
     pub fn own(&self, alloc: Global, at: u64, path: &RepoPath) -> Result<Names, NoMemory>
         requires from { self.now.floor ≤ at }
         requires to { at ≤ self.now.front }
-        ensures { IfOk result (λ names. (base : Content) (places : List ℕ → List ℕ → Option Place) (log : List Entry) → Agrees self.now base places log → names ≡ own_names (content_at self.now.floor base log at) path.now) }
+        ensures { IfOk result (λ names. (base : Content) (log : List Entry) → Agrees self.now base log → names ≡ own_names (content_at self.now.floor base log at) path.now) }
     {
         match self.repos.get(path) {
             None => Ok(ListOf::new(alloc)),
@@ -231,7 +259,7 @@ impl ObjSet {
     pub fn names(&self, alloc: Global, at: u64, path: &RepoPath) -> Result<Names, NoMemory>
         requires from { self.now.floor ≤ at }
         requires to { at ≤ self.now.front }
-        ensures { IfOk result (λ names. (base : Content) (places : List ℕ → List ℕ → Option Place) (log : List Entry) → Agrees self.now base places log → names ≡ visible_names (content_at self.now.floor base log at) path.now) }
+        ensures { IfOk result (λ names. (base : Content) (log : List Entry) → Agrees self.now base log → names ≡ visible_names (content_at self.now.floor base log at) path.now) }
     {
         let own = match self.own(alloc, at, path) {
             Ok(own) => own,
@@ -250,7 +278,7 @@ impl ObjSet {
     pub fn members(&self, alloc: Global, at: u64, path: &RepoPath) -> Result<Paths, NoMemory>
         requires from { self.now.floor ≤ at }
         requires to { at ≤ self.now.front }
-        ensures { IfOk result (λ paths. (base : Content) (places : List ℕ → List ℕ → Option Place) (log : List Entry) → Agrees self.now base places log → paths ≡ members (content_at self.now.floor base log at) path.now) }
+        ensures { IfOk result (λ paths. (base : Content) (log : List Entry) → Agrees self.now base log → paths ≡ members (content_at self.now.floor base log at) path.now) }
     {
         paths_in_pool(&self.repos, &self.members, alloc, at, path)
     }
@@ -259,7 +287,7 @@ impl ObjSet {
     pub fn least_member(&self, at: u64, path: &RepoPath) -> Option<&RepoPath>
         requires from { self.now.floor ≤ at }
         requires to { at ≤ self.now.front }
-        ensures { (base : Content) (places : List ℕ → List ℕ → Option Place) (log : List Entry) → Agrees self.now base places log → option_copied result ≡ least_member (content_at self.now.floor base log at) path.now }
+        ensures { (base : Content) (log : List Entry) → Agrees self.now base log → option_copied result ≡ least_member (content_at self.now.floor base log at) path.now }
     {
         least_in_pool(&self.repos, &self.members, at, path)
     }
@@ -268,7 +296,7 @@ impl ObjSet {
     pub fn paths(&self, alloc: Global, at: u64) -> Result<Paths, NoMemory>
         requires from { self.now.floor ≤ at }
         requires to { at ≤ self.now.front }
-        ensures { IfOk result (λ paths. (base : Content) (places : List ℕ → List ℕ → Option Place) (log : List Entry) → Agrees self.now base places log → paths ≡ all_paths (content_at self.now.floor base log at)) }
+        ensures { IfOk result (λ paths. (base : Content) (log : List Entry) → Agrees self.now base log → paths ≡ all_paths (content_at self.now.floor base log at)) }
     {
         paths_there(&self.repos, alloc, at)
     }

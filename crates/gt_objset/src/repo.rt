@@ -1,4 +1,4 @@
-ghost use Rattle.std.specs.Prelude.{◌≡◌, ℕ, List, is_some, filter, OnOk, IfOk, IsTrue, false, None, []};
+ghost use Rattle.std.specs.Prelude.{◌≡◌, ◌≤◌, ℕ, List, is_some, filter, OnOk, IfOk, IsTrue, false, None, []};
 ghost use Rattle.std.specs.FinMap as map;
 ghost use Rattle.std.specs.BTreeMap as tree;
 ghost use Rattle.std.specs.Option.{option_copied, option_or, unwrap_or};
@@ -7,11 +7,14 @@ ghost use Rattle.gt_versions.specs.Versions.{last_at, IsUpTo, ready};
 ghost use Rattle.gt_versions.specs.Lives.{value_since};
 ghost use Rattle.gt_objset.specs.Places.{pool_in, last_put};
 ghost use Rattle.gt_objset.specs.Track.{Track, life_at, is_pool_at, head_in_track, own_in_track, taken, items_of, put_if, IsTrackUpTo, HasRoom, Puts, IsRoomier};
+ghost use Rattle.gt_objset.specs.Moved.{Moves};
+ghost use Rattle.gt_objset.specs.Raised.{RaisesTrack, has_versions};
 
 use crate::Place;
 use crate::head::HeadChange;
 use crate::plan::Puts;
-use crate::slots::{PlaceVersions, put_slots, reserve_slots};
+use crate::raising::{raise_since, raise_slots};
+use crate::slots::{PlaceVersions, move_slot, put_slots, reserve_slots};
 use gt_list::{ListOf, NoMemory};
 use gt_name::{Name, Names, RepoPath};
 use gt_versions::Versions;
@@ -169,6 +172,33 @@ impl RepoObjects {
         put_if(&mut self.kinds, position, head.kind);
         put_if(&mut self.pools, position, head.pool);
         put_slots(&mut self.objects, position, puts);
+    }
+
+    /// The record of an own object stands elsewhere from a position on, where a place of it begins, for as long as it is own.
+    pub fn repoint(&mut self, floor: u64, at: u64, name: &Name, place: Place)
+        requires { floor ≤ at }
+        ensures { Moves floor at name.now place self.old self.new }
+    {
+        move_slot(&mut self.objects, &self.lives, floor, at, name, place);
+    }
+
+    /// Whether it was ever there.
+    pub fn was_there(&self) -> bool
+        ensures { result ≡ has_versions self.now.lives.0 }
+    {
+        !self.lives.is_empty()
+    }
+
+    /// Drops what only positions before this one needed. It takes no memory.
+    pub fn raise(&mut self, to: u64)
+        ensures { RaisesTrack to self.old self.new }
+    {
+        let life = self.lives.lives_since(to);
+        self.lives.law_order();
+        self.lives.raise_lives(to);
+        raise_since(&mut self.kinds, life, to);
+        raise_since(&mut self.pools, life, to);
+        raise_slots(&mut self.objects, life, to);
     }
 }
 

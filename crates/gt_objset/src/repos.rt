@@ -1,11 +1,12 @@
 // All repositories, by path.
-ghost use Rattle.std.specs.Prelude.{◌≡◌, ℕ, List, false, None, Some, IsSome, IfSome, OnOk, []};
+ghost use Rattle.std.specs.Prelude.{◌≡◌, ◌≤◌, ℕ, List, false, None, Some, IsSome, IfSome, OnOk, []};
 ghost use Rattle.std.specs.FinMap as map;
 ghost use Rattle.std.specs.BTreeMap as tree;
 ghost use Rattle.std.specs.Ordering.{eq_by_cmp};
 ghost use Rattle.gt_model.specs.Contents.{key_cmp};
 ghost use Rattle.gt_objset.specs.Track.{IsTrackUpTo, HasRoom, Puts, IsRoomier, IsUnborn};
 ghost use Rattle.gt_objset.specs.Table.{Changed, SameSlot, RoomHere};
+ghost use Rattle.gt_objset.specs.Moved.{Moves};
 
 use crate::Place;
 use crate::head::HeadChange;
@@ -34,6 +35,26 @@ pub fn put_repo(
         return;
     };
     repo.put(position, head, puts);
+}
+
+/// The record of an own object of a repository stands elsewhere from a position on, where a place of it begins, for as long
+/// as it is own.
+pub fn repoint_repo(
+    repos: &mut Repos,
+    floor: u64,
+    at: u64,
+    path: &RepoPath,
+    name: &Name,
+    place: Place,
+)
+    requires { floor ≤ at }
+    ensures here { Changed (Moves floor at name.now place) (tree.get key_cmp repos.old path.now) (tree.get key_cmp repos.new path.now) }
+    ensures others { (x : List ℕ) → eq_by_cmp key_cmp path.now x ≡ false → tree.get key_cmp repos.new x ≡ tree.get key_cmp repos.old x }
+{
+    let Some(repo) = repos.get_mut(path) else {
+        return;
+    };
+    repo.repoint(floor, at, name, place);
 }
 
 /// Takes room for a further change of a repository, of these objects.

@@ -1,9 +1,10 @@
 // The versions of the places of one repository's objects, by name.
-ghost use Rattle.std.specs.Prelude.{◌≡◌, ℕ, List, false, IsTrue, IsSome, OnOk, None, []};
+ghost use Rattle.std.specs.Prelude.{◌≡◌, ◌≤◌, ℕ, List, false, IsTrue, IsSome, OnOk, None, []};
 ghost use Rattle.std.specs.BTreeMap as tree;
 ghost use Rattle.std.specs.Ordering.{eq_by_cmp};
 ghost use Rattle.gt_model.specs.Contents.{key_cmp};
 ghost use Rattle.gt_versions.specs.Versions.{IsUpTo, put_at};
+ghost use Rattle.gt_versions.specs.Runs.{SetsRun};
 ghost use Rattle.gt_objset.specs.Track.{items_of, slot_ready, HasSlots, PutsSlots, AreRoomier};
 
 use crate::Place;
@@ -42,6 +43,26 @@ pub fn reserve_slots(
         }
     }
     Ok(())
+}
+
+/// The place of an object is this one from a position on, where a place begins, for as long as it has one. What it had
+/// before its repository began anew doesn't count.
+pub fn move_slot(
+    slots: &mut PlaceVersions,
+    lives: &Versions<bool>,
+    floor: u64,
+    at: u64,
+    name: &Name,
+    place: Place,
+)
+    requires { floor ≤ at }
+    ensures here { SetsRun floor at place lives.now.0 (items_of (tree.get key_cmp slots.old name.now)) (items_of (tree.get key_cmp slots.new name.now)) }
+    ensures others { (x : List ℕ) → eq_by_cmp key_cmp name.now x ≡ false → tree.get key_cmp slots.new x ≡ tree.get key_cmp slots.old x }
+{
+    let Some(versions) = slots.get_mut(name) else {
+        return;
+    };
+    versions.set_run(lives, floor, at, place);
 }
 
 fn put_slot(slots: &mut PlaceVersions, position: u64, name: &Name, place: Option<Place>)

@@ -116,7 +116,7 @@ each_up q (e ∷ es) s h = (
         subst P (sym none) tt
     by path false t = subst P (ap (λ b. cond b (Some e.1) (at_key es path)) t) (h path)
 
-sorted_of : (es : List (List ℕ × Track)) → IsStrictlySortedBy key_cmp (map (λ (e : List ℕ × Track). e.0) es) → T (is_sorted key_cmp es)
+pub sorted_of : (es : List (List ℕ × Track)) → IsStrictlySortedBy key_cmp (map (λ (e : List ℕ × Track). e.0) es) → T (is_sorted key_cmp es)
 sorted_of es h = let P : List (List ℕ × Track) → Type 0 = λ l. T (is_sorted key_cmp l) in subst P (entries_of es h) (entries_sorted (from_entries es))
 
 pub each_in_tree : (q : ℕ) (es fs : List (List ℕ × Track)) → fs ≡ es → IsStrictlySortedBy key_cmp (map (λ (e : List ℕ × Track). e.0) es) → ((path : List ℕ) → IsSlotUpTo q (at_key es path)) → EachUpTo q fs

@@ -9,3 +9,4 @@ pub mod ReadLaws
 pub mod AgreeLaws
 pub mod SeedLaws
 pub mod AllLaws
+pub mod RaisingLaws

@@ -1,3 +1,5 @@
 pub mod Tracks
 pub mod Table
 pub mod Agree
+pub mod Lean
+pub mod Raised

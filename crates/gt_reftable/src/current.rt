@@ -8,6 +8,7 @@ ghost use Rattle.gt_model.specs.Verdicts.{clashes, same_name};
 ghost use Rattle.gt_model.specs.Machine.{references};
 ghost use Rattle.gt_versions.specs.Versions.{IsUpTo};
 ghost use Rattle.gt_slots.specs.Present.{refs_since};
+ghost use Rattle.gt_slots.specs.Raised.{Raises};
 ghost use Rattle.gt_slots.specs.Slots.{items_of, slot_ready, PutsRef, IsRoomier};
 ghost use Rattle.gt_reftable.specs.Tracks.{step_trim, trimmed};
 
@@ -87,6 +88,20 @@ impl Current {
     {
         for update in updates {
             self.trim_one(position, &update.name);
+        }
+    }
+
+    /// Drops what only positions before `to` need, and the references that were set aside. It takes no memory, and costs in
+    /// proportion to what is there and to what was set aside.
+    pub fn raise(&mut self, to: u64)
+        ensures { Raises 0 to self.old self.new }
+    {
+        self.past.clear();
+        if self.is_over {
+            self.refs.clear();
+            self.is_over = false;
+        } else {
+            self.refs.raise(0, to);
         }
     }
 

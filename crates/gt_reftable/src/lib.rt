@@ -6,12 +6,13 @@ mod current;
 mod laws;
 mod listing;
 mod preparing;
+mod raising;
 mod repo;
 mod seeding;
 mod table;
 
 pub use laws::{
-    empty_tables_agree, lists_are_of_contents, references_are_values, same_tables_agree,
-    tables_follow_their_log,
+    empty_tables_agree, lists_are_of_contents, raised_tables_agree, references_are_values,
+    same_tables_agree, tables_follow_their_log,
 };
 pub use table::RefTable;

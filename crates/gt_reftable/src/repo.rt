@@ -1,4 +1,4 @@
-ghost use Rattle.std.specs.Prelude.{◌≡◌, ◌≤◌, ◌<◌, ℕ, List, false, IsTrue, IfOk, OnOk, OnErr, [], not, ◌&&◌, find};
+ghost use Rattle.std.specs.Prelude.{◌≡◌, ◌≤◌, ◌<◌, ℕ, List, true, false, None, IsTrue, IfOk, OnOk, OnErr, [], not, ◌&&◌, find};
 ghost use Rattle.std.specs.FinMap as map;
 ghost use Rattle.std.specs.List.{list_any};
 ghost use Rattle.std.specs.Option.{option_copied};
@@ -6,6 +6,8 @@ ghost use Rattle.gt_model.specs.Verdicts.{clashes, same_name};
 ghost use Rattle.gt_model.specs.Machine.{references};
 ghost use Rattle.gt_versions.specs.Versions.{IsUpTo, ready};
 ghost use Rattle.gt_slots.specs.Slots.{items_of};
+ghost use Rattle.gt_reftable.specs.Lean.{is_needed, IsLeanRepo};
+ghost use Rattle.gt_reftable.specs.Raised.{RaisesTrack};
 ghost use Rattle.gt_reftable.specs.Tracks.{value_in, refs_of, IsInStep, IsTrackUpTo, given, step_updates, is_named, HasPlace, HasRoom, IsRoomier, Moves, PutsLife, PutsUpdate, Seeds};
 
 use crate::current::Current;
@@ -129,6 +131,27 @@ impl RepoRefs {
         for update in updates {
             self.put_update(position, update);
         }
+    }
+
+    /// Drops what only positions before `to` need. Whether anything is left of it. It takes no memory, and costs in proportion
+    /// to all that was written to the repository since the floor.
+    pub fn raise(&mut self, to: u64) -> bool
+        ensures raised { RaisesTrack to self.old self.new }
+        ensures lean { result ≡ true → IsLeanRepo to self.new }
+        ensures gone { result ≡ false → (p : ℕ) (x : List ℕ) → value_in self.new p x ≡ None }
+    {
+        let start = self.lives.start(to);
+        self.lives.drop_up_to(to);
+        self.refs.raise(start, to);
+        self.current.raise(to);
+        self.is_needed()
+    }
+
+    /// Whether it was made or deleted past the floor, or has a reference.
+    fn is_needed(&self) -> bool
+        ensures { result ≡ is_needed self.now }
+    {
+        !self.lives.is_empty() || !self.refs.is_empty()
     }
 
     /// Takes room for being made or deleted.

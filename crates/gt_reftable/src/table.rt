@@ -4,11 +4,14 @@ ghost use Rattle.std.specs.List.{list_any};
 ghost use Rattle.std.specs.Option.{option_copied};
 ghost use Rattle.gt_model.specs.Verdicts.{clashes, same_name};
 ghost use Rattle.gt_model.specs.Machine.{references};
+ghost use Rattle.gt_reftable.specs.Lean.{IsLean};
+ghost use Rattle.gt_reftable.specs.Raised.{Raises};
 ghost use Rattle.gt_reftable.specs.Table.{refs_at, all_at, Adds, Seeds, IsEmpty, IsSameTable, IsPrepared};
 
 use crate::adding::add_next;
 use crate::listing::list_repos;
 use crate::preparing::prepare_entry;
+use crate::raising::raise_repos;
 use crate::repo::RepoRefs;
 use crate::seeding::seed_ref;
 use gt_list::NoMemory;
@@ -163,5 +166,18 @@ impl RefTable {
     {
         add_next(&mut self.repos, self.front, entry.position, entry);
         self.front = entry.position;
+    }
+
+    /// Makes a later position the floor: what only earlier ones needed leaves memory. Nothing changes at a position from there
+    /// on. It takes no memory, and costs in proportion to all that was written since the floor. Room that was taken for an
+    /// entry may go with it, so call it only where none is prepared.
+    pub fn raise(&mut self, to: u64)
+        requires from { self.old.floor ≤ to }
+        requires to { to ≤ self.old.front }
+        ensures raised { Raises to self.old self.new }
+        ensures lean { IsLean self.new }
+    {
+        raise_repos(&mut self.repos, to);
+        self.floor = to;
     }
 }

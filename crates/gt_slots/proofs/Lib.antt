@@ -12,3 +12,4 @@ pub mod ListLaws
 pub mod FolderLaws
 pub mod SeekLaws
 pub mod ClashLaws
+pub mod RaisingLaws

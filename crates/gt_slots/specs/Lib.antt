@@ -3,3 +3,4 @@ pub mod Pages
 pub mod Present
 pub mod Listing
 pub mod Clashing
+pub mod Raised

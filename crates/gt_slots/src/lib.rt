@@ -8,6 +8,7 @@ mod inserting;
 mod listing;
 mod page;
 mod probe;
+mod raising;
 mod removing;
 mod slots;
 

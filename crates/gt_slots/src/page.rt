@@ -1,4 +1,4 @@
-ghost use Rattle.std.specs.Prelude.{◌≡◌, ◌≤◌, ◌<◌, ◌∷◌, [], ◌++◌, ℕ, List, Option, true, false, T, IsTrue, OnOk, OnErr, IfOk, length, take, drop, slice_get, slice_set, slice_index_or};
+ghost use Rattle.std.specs.Prelude.{◌≡◌, ◌≤◌, ◌<◌, ◌∷◌, [], ◌++◌, ℕ, List, Option, true, false, not, nat_eq, T, IsTrue, OnOk, OnErr, IfOk, length, take, drop, slice_get, slice_set, slice_index_or};
 ghost use Rattle.std.specs.List.{insert, remove};
 ghost use Rattle.std.specs.List.Sorted.{IsPartitionPoint};
 ghost use Rattle.std.specs.FinMap.{is_sorted};
@@ -6,8 +6,10 @@ ghost use Rattle.std.specs.Option.{option_copied};
 ghost use Rattle.gt_model.specs.Contents.{key_cmp};
 ghost use Rattle.gt_versions.specs.Versions.{IsUpTo, ready, put_at};
 ghost use Rattle.gt_slots.specs.Pages.{probe, is_before, ends_before, Replaces};
+ghost use Rattle.gt_slots.specs.Raised.{raised_page, AreAscending};
 
 use crate::probe::is_before;
+use crate::raising::raise_slots;
 use gt_list::NoMemory;
 use gt_name::{Name, RefName};
 use gt_versions::Versions;
@@ -117,6 +119,16 @@ impl Page {
         // for the prover
         let _slots = self.slots.as_slice();
         let _slot = self.slots.remove(at);
+    }
+
+    /// Raises the versions of each reference, and takes out each that has none left. Whether a reference is left.
+    pub(crate) fn raise(&mut self, start: u64, to: u64) -> bool
+        ensures slots { self.new ≡ raised_page start to self.old }
+        ensures left { result ≡ not (nat_eq (length (raised_page start to self.old)) 0) }
+        ensures ascending { AreAscending self.old }
+    {
+        raise_slots(&mut self.slots, start, to);
+        !self.slots.as_slice().is_empty()
     }
 
     /// Takes the references from this index on into a page of their own.

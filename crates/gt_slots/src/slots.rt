@@ -1,4 +1,4 @@
-ghost use Rattle.std.specs.Prelude.{◌≡◌, ℕ, IsTrue, IfOk, OnOk, None, not, ◌&&◌, find};
+ghost use Rattle.std.specs.Prelude.{◌≡◌, ℕ, IsTrue, IfOk, OnOk, None, not, ◌&&◌, find, nat_eq, length};
 ghost use Rattle.std.specs.FinMap as map;
 ghost use Rattle.std.specs.List.{list_any};
 ghost use Rattle.std.specs.Option.{option_copied};
@@ -7,6 +7,7 @@ ghost use Rattle.gt_versions.specs.Versions.{last_at, IsUpTo};
 ghost use Rattle.gt_versions.specs.Lives.{value_since};
 ghost use Rattle.gt_model.specs.Machine.{references};
 ghost use Rattle.gt_slots.specs.Present.{refs_since};
+ghost use Rattle.gt_slots.specs.Raised.{Raises};
 ghost use Rattle.gt_slots.specs.Slots.{items_of, slot_ready, PutsRef, IsRoomier};
 
 use crate::clashing::clash_in;
@@ -14,6 +15,7 @@ use crate::editing::{prepare_slot, put_slot};
 use crate::finding::{find_place, look};
 use crate::listing::list_from;
 use crate::page::Page;
+use crate::raising::raise_pages;
 use crate::removing::remove_slot;
 use gt_list::NoMemory;
 use gt_model::RefList;
@@ -54,6 +56,13 @@ impl Slots {
         }
     }
 
+    /// Whether there is no reference.
+    pub fn is_empty(&self) -> bool
+        ensures { result ≡ nat_eq (length (map.entries self.now)) 0 }
+    {
+        self.pages.as_slice().is_empty()
+    }
+
     /// What a reference names at a position, where that was given from `start` on.
     pub fn value(&self, start: u64, position: u64, name: &RefName) -> Option<Name>
         ensures { result ≡ value_since start (last_at (items_of (map.get self.now name.now)) position None) }
@@ -86,6 +95,23 @@ impl Slots {
         ensures { self.new ≡ map.remove self.old name.now }
     {
         remove_slot(&mut self.pages, name);
+    }
+
+    /// Takes out every reference. It takes no memory, and costs in proportion to all values of the references.
+    pub fn clear(&mut self)
+        ensures { self.new ≡ map.empty }
+    {
+        self.pages.clear();
+    }
+
+    /// Drops what only positions before `to` need, and what was given before `start`: of the values of each reference at or
+    /// before `to` the last one stays, where it counts and names something, and a reference that has none left is taken out.
+    /// It takes no memory, and costs in proportion to all values of the references. Room that was taken for a reference that
+    /// has no value left goes with it, so call it only where nothing is prepared.
+    pub fn raise(&mut self, start: u64, to: u64)
+        ensures { Raises start to self.old self.new }
+    {
+        raise_pages(&mut self.pages, start, to);
     }
 
     /// The references whose names begin so, ascending by name: what each names at a position, where that was given from

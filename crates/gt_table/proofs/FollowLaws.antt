@@ -1,5 +1,5 @@
 -- What tables that follow a log over a base say of its content, and that they still do with one more entry.
-use Rattle.std.proofs.Common.{◌≡◌, ℕ, Bool, ◌-◌, ◌+◌, ◌≤◌, List, [], ◌∷◌, ◌++◌, length, Option, Some, None, Result, Ok, Err, IfOk, sym, ap, ◌∙◌, subst, arith}
+use Rattle.std.proofs.Common.{◌≡◌, ℕ, Bool, ◌-◌, ◌+◌, ◌≤◌, List, [], ◌∷◌, ◌++◌, length, Option, Result, Ok, Err, IfOk, sym, ap, ◌∙◌, subst, arith}
 use Rattle.std.proofs.lemmas.List.{take_all}
 use Rattle.gt_base.specs.Held.{places_of}
 use Rattle.gt_model.specs.declared.entry.Entry.{Entry}
@@ -55,13 +55,16 @@ all_here (Err e) all p h is = tt
 all_here (Ok l) all p h is = h ∙ is
 
 pub followed : (old new : Tables) (entry : Entry) → Follow old → refs_table.Adds entry old.refs new.refs → objects_table.Adds entry old.objects new.objects → new.past ≡ record old.past { log = old.past.log ++ entry ∷ [] }
-    → refs.Agrees new.refs (base old.past) (old.past.log ++ entry ∷ []) → objects.Agrees new.objects (base old.past) (places_of old.past.repos) (old.past.log ++ entry ∷ []) → Follow new
-followed old new entry h refs_add objects_add past refs_agree objects_agree =
+    → refs.Agrees new.refs (base old.past) (old.past.log ++ entry ∷ []) → objects.Agrees new.objects (base old.past) (old.past.log ++ entry ∷ [])
+    → objects.ArePlacedBy new.objects (base old.past) (places_of old.past.repos) (old.past.log ++ entry ∷ []) → Follow new
+followed old new entry h refs_add objects_add past refs_agree objects_agree objects_placed =
     let R : Past → Type 0 = λ p. refs.Agrees new.refs (base p) p.log in
-    let O : Past → Type 0 = λ p. objects.Agrees new.objects (base p) (places_of p.repos) p.log in
+    let O : Past → Type 0 = λ p. objects.Agrees new.objects (base p) p.log in
+    let P : Past → Type 0 = λ p. objects.ArePlacedBy new.objects (base p) (places_of p.repos) p.log in
     record {
       refs_floor = refs_add.floor ∙ h.refs_floor ∙ ap (λ (p : Past). p.begin) (sym past);
       objects_floor = objects_add.floor ∙ h.objects_floor ∙ ap (λ (p : Past). p.begin) (sym past);
       refs = subst R (sym past) refs_agree;
       objects = subst O (sym past) objects_agree;
+      placed = subst P (sym past) objects_placed;
     }

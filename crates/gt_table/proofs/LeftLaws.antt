@@ -34,15 +34,15 @@ no_entry = []
 nothing_of : (n : ℕ) → take n no_entry ≡ no_entry
 nothing_of n = take_all n no_entry (let none : length no_entry ≡ 0 = refl in omega arith)
 
-pub left_all : (begin : ℕ) (repos : List BaseRepo) (t : refs_table.Table) (o : objects_table.Table) → IsEmpty begin t → o.floor ≡ begin → objects.Agrees o nothing (λ path x. None) [] → Left t.floor repos repos t o
-left_all begin repos t o empty floor h = record {
+pub left_all : (begin : ℕ) (repos : List BaseRepo) (t : refs_table.Table) (o : objects_table.Table) → IsEmpty begin t → o.floor ≡ begin → objects.Agrees o nothing [] → objects.ArePlacedBy o nothing (λ path x. None) [] → Left t.floor repos repos t o
+left_all begin repos t o empty floor h placed = record {
   refs_floor = refl;
   refs_front = empty.front ∙ sym empty.floor;
   objects_floor = start;
   objects_front = last;
   parts = λ path x. ap (λ head. option_or (option_map (λ head. (head, (refs_at t t.floor path, own_at o t.floor path x))) head) (wanted repos path x)) (no_head path);
   no_refs = λ path e. empty.refs t.floor path;
-  no_own = λ path x e. h.own t.floor path x low high ∙ ap (λ l. places_after nothing (λ path x. None) l path x) (nothing_of (t.floor - o.floor));
+  no_own = λ path x e. placed.own t.floor path x low high ∙ ap (λ l. places_after nothing (λ path x. None) l path x) (nothing_of (t.floor - o.floor));
 }
   where
     start : o.floor ≡ t.floor
@@ -219,20 +219,23 @@ module _ (begin : ℕ) (repos : List BaseRepo) (t : refs_table.Table) (o : objec
 pub follows : (t : Tables) (begin : ℕ) (repos : List BaseRepo) → t.past.log ≡ [] → begin ≡ t.past.begin → repos ≡ t.past.repos → Left begin [] repos t.refs t.objects
     → ((r : refs_table.Table) (base : Content) → r.front ≡ r.floor → ((path : List ℕ) → refs_at r r.floor path ≡ refs_in base path) → refs.Agrees r base [])
     → ((o : objects_table.Table) (base : Content) (places : List ℕ → List ℕ → Option Place) → o.front ≡ o.floor → ArePlaced base places → ((path : List ℕ) → head_at o o.floor path ≡ head_in base path)
-    → ((path x : List ℕ) → own_at o o.floor path x ≡ places path x) → objects.Agrees o base places []) → Follow t
-follows t begin repos empty at_begin same left refs_agree objects_agree =
+    → ((path x : List ℕ) → own_at o o.floor path x ≡ places path x) → objects.Agrees o base [])
+    → ((o : objects_table.Table) (base : Content) (places : List ℕ → List ℕ → Option Place) → o.front ≡ o.floor → ArePlaced base places → ((path : List ℕ) → head_at o o.floor path ≡ head_in base path)
+    → ((path x : List ℕ) → own_at o o.floor path x ≡ places path x) → objects.ArePlacedBy o base places []) → Follow t
+follows t begin repos empty at_begin same left refs_agree objects_agree objects_placed =
     let B : ℕ → Type 0 = λ n. Left n [] repos t.refs t.objects in
     let R : List BaseRepo → Type 0 = λ l. Left t.past.begin [] l t.refs t.objects in
     let h = subst R same (subst B at_begin left) in
     let b = t.past.begin in
     let files = t.past.repos in
+    let front = h.objects_front ∙ sym h.objects_floor in
+    let heads : (path : List ℕ) → head_at t.objects t.objects.floor path ≡ head_in (base t.past) path = λ path. ap (λ n. head_at t.objects n path) h.objects_floor ∙ held_head b files t.refs t.objects h path in
+    let own : (path x : List ℕ) → own_at t.objects t.objects.floor path x ≡ places_of files path x = λ path x. ap (λ n. own_at t.objects n path x) h.objects_floor ∙ held_own b files t.refs t.objects h path x in
     record {
       refs_floor = h.refs_floor;
       objects_floor = h.objects_floor;
       refs = subst (refs.Agrees t.refs (base t.past)) (sym empty)
           (refs_agree t.refs (base t.past) (h.refs_front ∙ sym h.refs_floor) (λ path. ap (λ n. refs_at t.refs n path) h.refs_floor ∙ held_refs b files t.refs t.objects h path));
-      objects = subst (objects.Agrees t.objects (base t.past) (places_of files)) (sym empty)
-          (objects_agree t.objects (base t.past) (places_of files) (h.objects_front ∙ sym h.objects_floor) (base_placed files)
-          (λ path. ap (λ n. head_at t.objects n path) h.objects_floor ∙ held_head b files t.refs t.objects h path)
-          (λ path x. ap (λ n. own_at t.objects n path x) h.objects_floor ∙ held_own b files t.refs t.objects h path x));
+      objects = subst (objects.Agrees t.objects (base t.past)) (sym empty) (objects_agree t.objects (base t.past) (places_of files) front (base_placed files) heads own);
+      placed = subst (objects.ArePlacedBy t.objects (base t.past) (places_of files)) (sym empty) (objects_placed t.objects (base t.past) (places_of files) front (base_placed files) heads own);
     }

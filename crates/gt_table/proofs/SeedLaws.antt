@@ -1,6 +1,5 @@
 -- What a base has, put piece by piece into both tables.
-use Rattle.std.proofs.Common.{◌≡◌, ℕ, ◌+◌, ◌-◌, ◌<◌, ◌≤◌, Bool, true, false, cond, ◌&&◌, is_some, drop, length, get_or, List, [], ◌∷◌, fold, map as map_list, Option, Some, None, Result, Ok, Err, OnOk, IsSome, refl, sym, ap, ◌∙◌, subst, arith}
-use Rattle.std.specs.Prelude.{bytes_eq}
+use Rattle.std.proofs.Common.{◌≡◌, ℕ, ◌+◌, ◌-◌, ◌<◌, ◌≤◌, Bool, true, false, cond, ◌&&◌, drop, length, get_or, List, [], ◌∷◌, fold, Option, Some, None, Result, Ok, Err, OnOk, IsSome, refl, sym, ap, ◌∙◌, subst, arith}
 use Rattle.std.proofs.lemmas.List.{drop_more}
 use Rattle.std.specs.Cmp.{eq_by_cmp_equiv}
 use Rattle.std.specs.Cmp.Lexicographic.{nat_list_cmp_total}
@@ -9,9 +8,9 @@ use Rattle.std.specs.FinMap.{from_entries, get-insert, get-empty, same_map}
 use Rattle.std.specs.Option.{option_map, option_or}
 use Rattle.std.specs.Ordering.{eq_by_cmp}
 use Rattle.gt_base.specs.declared.held.BaseRepo.{BaseRepo}
-use Rattle.gt_base.specs.Held.{items_of, to_place, place_in, place_of, with_loose, packed_values, refs_of}
+use Rattle.gt_base.specs.Held.{items_of, to_place, place_in, place_of, with_loose}
 use Rattle.gt_base.specs.Packs.{PackFile}
-use Rattle.gt_model.specs.Contents.{key_cmp, Names, is_zero}
+use Rattle.gt_model.specs.Contents.{key_cmp, Names}
 use Rattle.gt_model.specs.declared.reference.RefValue.{RefValue}
 use Rattle.gt_objset.specs.Places.{Head}
 use Rattle.gt_objset.specs.Seeds.{SeedsRepo, SeedsObject}

@@ -56,12 +56,13 @@ tables_code =
     code_by ((Past × ℕ) × (refs_table.Table × objects_table.Table)) (coded× (coded× past_code coded_ℕ) (coded× refs_table.table_code objects_table.table_code))
     (λ t. ((t.past, t.room), (t.refs, t.objects))) (λ p. record { past = p.0.0; room = p.0.1; refs = p.1.0; objects = p.1.1 }) (λ _. refl)
 
--- Both tables begin at the position of the base, and agree with the content at each position from there on.
+-- Both tables begin at the position of the base, and agree with the content at each position from there on; each record of an own object stands where the base has it, or in the file of its entry.
 pub record Follow (t : Tables) : Type 0 where
   pub refs_floor : t.refs.floor ≡ t.past.begin
   pub objects_floor : t.objects.floor ≡ t.past.begin
   pub refs : refs.Agrees t.refs (base t.past) t.past.log
-  pub objects : objects.Agrees t.objects (base t.past) (places_of t.past.repos) t.past.log
+  pub placed : objects.ArePlacedBy t.objects (base t.past) (places_of t.past.repos) t.past.log
+  pub objects : objects.Agrees t.objects (base t.past) t.past.log
 
 -- All memory of adding this entry is taken.
 pub record HasRoomFor (entry : Entry) (t : Tables) : Type 0 where

@@ -1,3 +1,5 @@
 pub mod Ascending
 pub mod Versions
 pub mod Lives
+pub mod Runs
+pub mod Raised

@@ -2,7 +2,9 @@
 #![tactic(auto)]
 
 mod laws;
+mod raising;
 mod reading;
+mod runs;
 mod versions;
 
 pub use laws::later_versions_leave_earlier_positions;

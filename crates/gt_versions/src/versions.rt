@@ -12,7 +12,7 @@ use std::marker::Model;
 /// value, ascending, and for how many more there is room.
 #[derive(Drop)]
 pub struct Versions<V> {
-    items: Vec<(u64, V)>,
+    pub(crate) items: Vec<(u64, V)>,
 }
 
 impl<V> Model for Versions<V> {
@@ -97,7 +97,7 @@ fn drop_same<V: Drop>(items: &mut Vec<(u64, V)>, position: u64)
 }
 
 /// How many versions stand at or before a position.
-fn count_up_to<V>(items: &[(u64, V)], position: u64) -> usize
+pub(crate) fn count_up_to<V>(items: &[(u64, V)], position: u64) -> usize
     requires { IsAscending items.now }
     ensures bound { result ≤ length items.now }
     ensures parts { IsPartitionPoint (λ e. nat_le e.0 position ≡ true) (λ e. nat_le e.0 position ≡ false) items.now result }

@@ -1,4 +1,4 @@
-use Rattle.std.proofs.Common.{ap, ◌∙◌, sym, ◌-◌, drop}
+use Rattle.std.proofs.Common.{ap, ◌∙◌, sym, drop}
 use Rattle.std.specs.FinMap as map
 use Rattle.gt_base.specs.Held.{packed_values}
 use Rattle.gt_model.specs.Contents.{Names}

@@ -1,4 +1,4 @@
-use Rattle.std.proofs.Common.{◌∙◌, ◌≡◌, ◌∷◌, Some, List, ℕ, subst}
+use Rattle.std.proofs.Common.{◌∙◌, ◌≡◌, Some, List, ℕ, subst}
 use Rattle.std.proofs.lemmas.List.Elements.{All-same, All-head, All-rest}
 use Rattle.std.proofs.lemmas.Map.Iter.{rest_more, rest_all}
 use Rattle.std.specs.List.{All}

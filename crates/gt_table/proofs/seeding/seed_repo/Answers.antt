@@ -1,5 +1,3 @@
-use Rattle.std.specs.Option.{option_copied}
-use Rattle.gt_objset.specs.Places.{Head}
 use Rattle.gt_table.proofs.SeedLaws.{now_there}
 use Rattle.gt_table.proofs.seeding.seed_repo.Goals as goal
 

@@ -12,4 +12,4 @@ pub returns : goal.returns
 returns c =
     let low = rw (← c.self.view_is) at c.requires.from in
     let high = rw (← c.self.view_is) at c.requires.to in
-    rw (← c.self.view_is) (λ base places log h. c.least_in_pool.ensures.least ∙ least_listed c.self.inside.floor c.self.inside.front c.self.inside.repos.entries c.self.inside.members.entries c.self.inside.head c.self.inside.puts c.args.at low high base places log h c.args.path.now c.least_in_pool.ensures.ordered)
+    rw (← c.self.view_is) (λ base log h. c.least_in_pool.ensures.least ∙ least_listed c.self.inside.floor c.self.inside.front c.self.inside.repos.entries c.self.inside.members.entries c.self.inside.head c.self.inside.puts c.args.at low high base log h c.args.path.now c.least_in_pool.ensures.ordered)

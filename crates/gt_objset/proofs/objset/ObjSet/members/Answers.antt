@@ -20,5 +20,5 @@ returns c =
     let low = rw (← c.self.view_is) at c.requires.from in
     let high = rw (← c.self.view_is) at c.requires.to in
     rw (← c.self.view_is) (ok_listed c.paths_in_pool.result (filter (λ q. is_this (pool_in (head_in_slot (at_key c.self.inside.repos.entries q) c.args.at)) c.args.path.now) (list_map (λ e. e.0) c.self.inside.repos.entries))
-    (λ base places log. Agrees (table c.self.inside.floor c.self.inside.front c.self.inside.repos.entries c.self.inside.members.entries c.self.inside.head c.self.inside.puts) base places log) (λ base places log. members (at c.self.inside.floor base log c.args.at) c.args.path.now)
-    (λ base places log h. members_listed c.self.inside.floor c.self.inside.front c.self.inside.repos.entries c.self.inside.members.entries c.self.inside.head c.self.inside.puts c.args.at low high base places log h c.args.path.now c.paths_in_pool.ensures.ordered) c.paths_in_pool.ensures.paths)
+    (λ base log. Agrees (table c.self.inside.floor c.self.inside.front c.self.inside.repos.entries c.self.inside.members.entries c.self.inside.head c.self.inside.puts) base log) (λ base log. members (at c.self.inside.floor base log c.args.at) c.args.path.now)
+    (λ base log h. members_listed c.self.inside.floor c.self.inside.front c.self.inside.repos.entries c.self.inside.members.entries c.self.inside.head c.self.inside.puts c.args.at low high base log h c.args.path.now c.paths_in_pool.ensures.ordered) c.paths_in_pool.ensures.paths)

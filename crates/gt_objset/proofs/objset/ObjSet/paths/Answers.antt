@@ -13,5 +13,5 @@ returns c =
     let low = rw (← c.self.view_is) at c.requires.from in
     let high = rw (← c.self.view_is) at c.requires.to in
     rw (← c.self.view_is) (ok_listed c.paths_there.result (filter (λ q. is_some (head_in_slot (at_key c.self.inside.repos.entries q) c.args.at)) (list_map (λ e. e.0) c.self.inside.repos.entries))
-    (λ base places log. Agrees (table c.self.inside.floor c.self.inside.front c.self.inside.repos.entries c.self.inside.members.entries c.self.inside.head c.self.inside.puts) base places log) (λ base places log. all_paths (at c.self.inside.floor base log c.args.at))
-    (λ base places log h. paths_listed c.self.inside.floor c.self.inside.front c.self.inside.repos.entries c.self.inside.members.entries c.self.inside.head c.self.inside.puts c.args.at low high base places log h c.paths_there.ensures.ordered) c.paths_there.ensures.paths)
+    (λ base log. Agrees (table c.self.inside.floor c.self.inside.front c.self.inside.repos.entries c.self.inside.members.entries c.self.inside.head c.self.inside.puts) base log) (λ base log. all_paths (at c.self.inside.floor base log c.args.at))
+    (λ base log h. paths_listed c.self.inside.floor c.self.inside.front c.self.inside.repos.entries c.self.inside.members.entries c.self.inside.head c.self.inside.puts c.args.at low high base log h c.paths_there.ensures.ordered) c.paths_there.ensures.paths)

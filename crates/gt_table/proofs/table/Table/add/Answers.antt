@@ -13,4 +13,5 @@ invariant_of-self c =
     let fit = rw (← c.self.view_is) at c.requires.fit in
     followed _ _ entry c.self.invariant c.with.ensures c.with-2.ensures (ap (λ l. record past { log = l }) c.add.ensures.items)
     (c.tables_follow_their_log.ensures c.self.inside.refs c.with.new.self (base past) log entry c.self.invariant.refs fit c.with.ensures)
-    (c.tables_follow_their_logs.ensures c.self.inside.objects c.with-2.new.self (base past) (places_of repos) log entry c.self.invariant.objects c.with-2.ensures)
+    (c.tables_follow_their_logs.ensures.agree c.self.inside.objects c.with-2.new.self (base past) log entry c.self.invariant.objects c.with-2.ensures)
+    (c.tables_follow_their_logs.ensures.placed c.self.inside.objects c.with-2.new.self (base past) (places_of repos) log entry c.self.invariant.objects c.self.invariant.placed c.with-2.ensures)
