@@ -1,5 +1,5 @@
 -- What entries write to one repository.
-use Rattle.std.proofs.Common.{◌≡◌, ℕ, Bool, true, false, cond, ◌&&◌, ◌||◌, T, is_some, List, [], ◌∷◌, ◌++◌, Option, Some, None, refl, sym, ap, ◌∙◌, filter, fold, flat_map, map as map_list}
+use Rattle.std.proofs.Common.{◌≡◌, ℕ, ◌+◌, arith, length, length-append, Bool, true, false, cond, ◌&&◌, ◌||◌, T, is_some, List, [], ◌∷◌, ◌++◌, Option, Some, None, refl, sym, ap, ◌∙◌, filter, fold, flat_map, map as map_list}
 use Rattle.std.proofs.lemmas.List.{map-append}
 use Rattle.std.proofs.lemmas.List.Elements.{filter-append}
 use Rattle.std.specs.List.{list_any}
@@ -137,6 +137,25 @@ files_are es w pack values =
     ∙ ap (λ (fs : List batch.NewFile). pack_or_none (pack_in es) ++ fs) (loose-files es)
     ∙ ap (λ (fs : List batch.NewFile). fs ++ map_list batch.loose (ascending (flat_map (λ e. written e.change) es)))
     (pack-files (list_any (λ e. has_records e.change) es) (map_list to_added (map.entries (records_of es))))
+
+-- how many there are
+pub how_many : (es : List Entry) (values : List (List ℕ × List ℕ)) (b : Bool) → values ≡ map.entries (values_of es) → list_any (λ e. has_records e.change) es ≡ b → cond b 1 0 + length values ≡ length (files_of es)
+how_many es values b same any =
+    let records : List Added = map_list to_added (map.entries (records_of es)) in
+    let all : length (pack_or_none (pack_in es) ++ map_list (λ v. batch.loose v.0) values) ≡ length (files_of es) = ap length (files_are es (record { pack = pack_in es; values = values }) refl same) in
+    let parts : length (pack_or_none (pack_in es) ++ map_list (λ v. batch.loose v.0) values) ≡ length (pack_or_none (pack_in es)) + length (map_list (λ v. batch.loose v.0) values) =
+    length-append (pack_or_none (pack_in es)) (map_list (λ v. batch.loose v.0) values) in
+    let one : length (pack_or_none (pack_in es)) ≡ cond b 1 0 = ap (λ (t : Bool). length (pack_or_none (cond t (Some records) None))) any ∙ by b in
+    let many : length (map_list (λ v. batch.loose v.0) values) ≡ length values = long values in
+    omega arith
+  where
+    by : (t : Bool) → length (pack_or_none (cond t (Some (map_list to_added (map.entries (records_of es)))) None)) ≡ cond t 1 0
+    by true = refl
+    by false = refl
+
+    long : (vs : List (List ℕ × List ℕ)) → length (map_list (λ v. batch.loose v.0) vs) ≡ length vs
+    long [] = refl
+    long (v ∷ vs) = let e : length (map_list (λ v. batch.loose v.0) vs) ≡ length vs = long vs in omega arith
 
 -- ---- what they have
 

@@ -2,6 +2,7 @@
 #![tactic(auto)]
 
 mod copies;
+mod counting;
 mod entering;
 mod filing;
 mod laws;
@@ -16,7 +17,9 @@ mod short;
 mod values;
 mod writes;
 
+pub use counting::count_files;
 pub use laws::plans_fit;
 pub use new_file::{FileList, NewContent, NewFile};
 pub use planning::plan;
+pub use repos::{Own, paths_of, repos_at};
 pub use short::is_short;

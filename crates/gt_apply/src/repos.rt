@@ -16,7 +16,7 @@ use std::collections::BTreeSet;
 use std::mem;
 
 /// The entries of one repository, in order.
-pub(crate) type Own<'a> = ListOf<&'a Entry>;
+pub type Own<'a> = ListOf<&'a Entry>;
 
 pub(crate) fn is_deletion(change: &Change) -> bool
     ensures { result ≡ is_deletion change.now }
@@ -35,7 +35,7 @@ pub(crate) fn is_deletion(change: &Change) -> bool
 
 /// The repositories that stand at a path in the course of entries, each as its entries: what is created behind a deletion is
 /// another one. A batch has few entries, so all of them are gone through for each path.
-pub(crate) fn repos_at<'a>(
+pub fn repos_at<'a>(
     alloc: Global,
     path: &RepoPath,
     entries: &'a [Entry],
@@ -76,7 +76,7 @@ fn listed(alloc: Global, paths: BTreeSet<RepoPath>) -> Result<Vec<RepoPath>, NoM
 }
 
 /// The paths of entries, ascending, each once.
-pub(crate) fn paths_of(alloc: Global, entries: &[Entry]) -> Result<Vec<RepoPath>, NoMemory>
+pub fn paths_of(alloc: Global, entries: &[Entry]) -> Result<Vec<RepoPath>, NoMemory>
     ensures { IfOk result (λ v. v.items ≡ paths_of entries.now) }
 {
     let paths = path_set(alloc, entries)?;

@@ -1,0 +1,4 @@
+pub mod Moves
+pub mod Laying
+pub mod Within
+pub mod Standing

@@ -1,0 +1,19 @@
+use gt_list::ListOf;
+use gt_name::{Name, RepoPath};
+use gt_objset::Place;
+
+/// An own object of a repository stands at another place from now on.
+#[derive(Drop)]
+pub struct Move {
+    /// The position of the entry that added it.
+    pub position: u64,
+    /// The path of the repository.
+    pub path: RepoPath,
+    /// The object's name.
+    pub name: Name,
+    /// Where its record stands.
+    pub place: Place,
+}
+
+/// Moves, repository after repository.
+pub type Moves = ListOf<Move>;
