@@ -1,4 +1,5 @@
-ghost use Rattle.std.specs.Prelude.{◌≡◌, map};
+ghost use Rattle.std.specs.Prelude.{◌≡◌, false, map, Err};
+ghost use Rattle.gt_model.specs.Contents.{has_repo};
 ghost use Rattle.gt_model.specs.Verdicts.{verdict, missing_dep};
 ghost use Rattle.gt_stage.specs.Staging.{IsEachOnce};
 ghost use Rattle.gt_verify.specs.Refusing.{IsVerdict};
@@ -27,14 +28,16 @@ use std::alloc::Global;
 /// 4. `MissingObject`: in order of first staging, the first new value that isn't zero and is neither visible nor staged.
 ///    Then, over the added records in order of name and what each mentions in its own order, the first that is neither.
 ///
-/// `Memory` may come in place of any answer.
+/// `Memory` may come in place of any answer but `RepositoryGone`.
 pub fn verdict<L: Look>(
     alloc: Global,
     front: &L,
     path: &RepoPath,
     stage: &Stage,
 ) -> Result<Ready, VerifyError>
-    ensures { IsVerdict (verdict (L.content front.now) path.now stage.now.staged) result }
+    ensures is { IsVerdict (verdict (L.content front.now) path.now stage.now.staged) result }
+    // No memory is wanted before this is known.
+    ensures gone { has_repo (L.content front.now) path.now ≡ false → result ≡ Err VerifyError.RepositoryGone }
 {
     if !front.has_repo(path) {
         return Err(VerifyError::RepositoryGone);

@@ -6,8 +6,8 @@ use Rattle.gt_verify.specs.Checks.{refs_failure}
 use Rattle.gt_verify.proofs.Outcome.{refused, passed}
 use Rattle.gt_verify.proofs.deciding.verdict.Goals as goal
 
-pub returns-in-Err : goal.returns-in-Err
-returns-in-Err g c =
+pub returns-in-Err-clause-is : goal.returns-in-Err-clause-is
+returns-in-Err-clause-is g c =
     let content = g.L.Look.content c.args.front.now in
     let path = c.args.path.now in
     let staged = c.args.stage.now.staged in
@@ -17,8 +17,8 @@ returns-in-Err g c =
           (ap (refs_failure content path staged) (sym (c.as_slice.ensures ∙ c.in_ok-refs.ensures)) ∙ s))
     ]
 
-pub returns : goal.returns
-returns g c =
+pub returns-clause-is : goal.returns-clause-is
+returns-clause-is g c =
     let content = g.L.Look.content c.args.front.now in
     let path = c.args.path.now in
     let staged = c.args.stage.now.staged in
