@@ -6,7 +6,8 @@ use gt_manifest::{Loose, LooseList, Numbers, RepoFiles, RepoList};
 use gt_name::RepoPath;
 use std::alloc::Global;
 
-pub(crate) fn copied_path(path: &RepoPath) -> Result<RepoPath, NoMemory>
+/// The same path again. Its only error is want of memory.
+pub fn copied_path(path: &RepoPath) -> Result<RepoPath, NoMemory>
     ensures { IfOk result (λ copy. copy ≡ path.now) }
 {
     match path.clone() {

@@ -17,9 +17,11 @@ mod short;
 mod values;
 mod writes;
 
+pub use copies::copied_path;
 pub use counting::count_files;
 pub use laws::plans_fit;
 pub use new_file::{FileList, NewContent, NewFile};
 pub use planning::plan;
+pub use records::added_by;
 pub use repos::{Own, paths_of, repos_at};
 pub use short::is_short;

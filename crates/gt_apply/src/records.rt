@@ -35,18 +35,19 @@ fn add_records(tree: &mut RecordTree, added: &[Added]) -> Result<(), NoMemory>
     Ok(())
 }
 
-fn add_change(tree: &mut RecordTree, change: &Change) -> Result<(), NoMemory>
-    ensures { OnOk result (map.from_entries {R = key_cmp} tree.new.entries ≡ with_added (map.from_entries tree.old.entries) (added_by change.now)) }
+/// The records that a change adds, in its order.
+pub fn added_by(change: &Change) -> &[Added]
+    ensures { result.now ≡ added_by change.now }
 {
     match change {
-        Change::Write { added, .. } => add_records(tree, added.as_slice()),
-        Change::Create { .. } => Ok(()),
-        Change::Delete => Ok(()),
-        Change::Link { .. } => Ok(()),
-        Change::Repack { .. } => Ok(()),
-        Change::Prune { .. } => Ok(()),
-        Change::PackRefs { .. } => Ok(()),
-        Change::Unlink { .. } => Ok(()),
+        Change::Write { added, .. } => added.as_slice(),
+        Change::Create { .. } => &[],
+        Change::Delete => &[],
+        Change::Link { .. } => &[],
+        Change::Repack { .. } => &[],
+        Change::Prune { .. } => &[],
+        Change::PackRefs { .. } => &[],
+        Change::Unlink { .. } => &[],
     }
 }
 
@@ -55,7 +56,7 @@ fn tree_of(alloc: Global, own: &[&Entry]) -> Result<RecordTree, NoMemory>
 {
     let mut tree = BTreeMap::new(alloc);
     for entry in own {
-        add_change(&mut tree, &entry.change)?;
+        add_records(&mut tree, added_by(&entry.change))?;
     }
     Ok(tree)
 }

@@ -95,10 +95,10 @@ to_paths entries e h =
 
 -- ---- the moves of an entry
 
-pub in_moves_of : (k : ℕ) (own : List Entry) (m : Move) → In (moves_of k own) m → (e : Entry) × (a : Added) × In own e × In (added_by e.change) a × (m ≡ moved k (laid_out own) e a.name)
+pub in_moves_of : (k : ℕ) (own : List Entry) (m : Move) → In (moves_of k own) m → (e : Entry) × (a : Added) × In own e × In (added_by e.change) a × (m ≡ moved k (laid_out own) e a)
 in_moves_of k own m h =
     let r = in-flat (moves_by k (laid_out own)) own m h in
-    let s = in-map (λ (a : Added). moved k (laid_out own) r.0 a.name) (added_by r.0.change) m r.2 in
+    let s = in-map (moved k (laid_out own) r.0) (added_by r.0.change) m r.2 in
     (r.0, s.0, r.1, s.1, s.2)
 
 module _ (e : Entry) (a : Added) (adds : In (added_by e.change) a) where
@@ -107,8 +107,8 @@ module _ (e : Entry) (a : Added) (adds : In (added_by e.change) a) where
 
   has_of : (k : ℕ) (own : List Entry) → In own e → Has (moves_of k own)
   has_of k own i = (
-    moved k (laid_out own) e a.name,
-    to-flat (moves_by k (laid_out own)) own e (moved k (laid_out own) e a.name) i (to-map (λ (b : Added). moved k (laid_out own) e b.name) (added_by e.change) a adds),
+    moved k (laid_out own) e a,
+    to-flat (moves_by k (laid_out own)) own e (moved k (laid_out own) e a) i (to-map (moved k (laid_out own) e) (added_by e.change) a adds),
     record { position = refl; path = refl; name = refl },
   )
 

@@ -92,7 +92,7 @@ module _ (next top : ℕ) (entries : List Entry) where
       let long : length (flat_map files_of (own ∷ later)) ≡ length (files_of own) + length (flat_map files_of later) = length-append (files_of own) (flat_map files_of later) in
       (record { whole = whole own (inl refl); from = from; below = omega arith }, part_rows (n + length (files_of own)) later (λ o i. whole o (inr i)) (omega arith) (omega arith))
 
-  part_paths : (n : ℕ) (paths : List (List ℕ)) → next ≤ n → n + length (flat_map (λ path. files_at path entries) paths) ≤ top → AllRows IsPart entries n paths
+  pub part_paths : (n : ℕ) (paths : List (List ℕ)) → next ≤ n → n + length (flat_map (λ path. files_at path entries) paths) ≤ top → AllRows IsPart entries n paths
   part_paths n [] from below = tt
   part_paths n (path ∷ paths) from below =
       let long : length (flat_map (λ path. files_at path entries) (path ∷ paths)) ≡ length (files_at path entries) + length (flat_map (λ path. files_at path entries) paths) = length-append (files_at path entries) (flat_map (λ path. files_at path entries) paths) in

@@ -1,5 +1,5 @@
 -- Moved records stand in the packs of new files.
-use Rattle.std.proofs.Common.{◌≡◌, inl, inr, ℕ, zero, suc, ◌+◌, Bool, true, false, cond, List, [], ◌∷◌, ◌++◌, length, flat_map, Option, Some, None, refl, sym, ap, ◌∙◌, subst, slice_get, slice_range, map as map_list}
+use Rattle.std.proofs.Common.{◌≡◌, inl, inr, ⊎_elim, ℕ, zero, suc, ◌+◌, ◌≤◌, Bool, true, false, cond, List, [], ◌∷◌, ◌++◌, length, flat_map, Option, Some, None, refl, sym, ap, ◌∙◌, subst, arith, slice_get, slice_range, map as map_list}
 use Rattle.std.proofs.lemmas.List.Elements.{recursion_from_All}
 use Rattle.std.specs.Prelude.{All}
 use Rattle.std.specs.List.{AllByRecursion}
@@ -9,21 +9,24 @@ use Rattle.std.specs.FinMap as map
 use Rattle.std.specs.FinMap.{find, get-entries}
 use Rattle.gt_applied.specs.Applied.{to_packed, bytes_of, HasSpelling, HaveSpellings}
 use Rattle.gt_applied.proofs.Typed.{records_packed}
-use Rattle.gt_apply.specs.Plan.{records_of, to_added, content_of, contents_at, numbered, planned_files}
+use Rattle.gt_apply.specs.Plan.{added_by, records_of, to_added, content_of, contents_at, numbered, planned_files}
 use Rattle.gt_apply.specs.declared.new_file.NewContent.{NewContent}
 use Rattle.gt_apply.specs.declared.new_file.NewFile.{NewFile}
 use Rattle.gt_apply.proofs.DraftLaws.{numbered-append, contents, length-map, length-contents}
 use Rattle.gt_apply.proofs.Lists.{In, all_of, each}
 use Rattle.gt_base.specs.Built.{IsBuilt}
-use Rattle.gt_base.proofs.Finding.{one_path}
+use Rattle.gt_base.proofs.Finding.{same_test, one_path}
 use Rattle.gt_checkpoint.specs.Advancing.{AreKept}
 use Rattle.gt_disk.specs.Files.{States, still}
 use Rattle.gt_disk.specs.Kinds.{pack_file}
-use Rattle.gt_entry.specs.Fits.{IsEntry}
+use Rattle.gt_entry.specs.Fits.{IsEntry, HasChangeSpelling}
 use Rattle.gt_model.specs.Batches as batch
-use Rattle.gt_model.specs.Batches.{has_records, written, files_of, files_at, repos_at, paths_of}
+use Rattle.gt_model.specs.Batches.{has_records, written, files_of, files_at, new_files, repos_at, paths_of}
 use Rattle.gt_model.specs.Contents.{key_cmp, Content, IsLegal}
-use Rattle.gt_model.specs.Verdicts.{ascending}
+use Rattle.gt_model.proofs.Values.{itself}
+use Rattle.gt_model.specs.Verdicts.{ascending, same_name}
+use Rattle.gt_model.specs.declared.added.Added.{Added}
+use Rattle.gt_model.specs.declared.change.Change.{Change}
 use Rattle.gt_model.specs.declared.entry.Entry.{Entry}
 use Rattle.gt_pack.specs.Index.{find_in}
 use Rattle.gt_pack.specs.Spelling.{Packed, place, places, pack, IsPack}
@@ -32,10 +35,10 @@ use Rattle.gt_pack.proofs.FindLaws.{found_at}
 use Rattle.gt_pack.proofs.RiseLaws.{places_rise}
 use Rattle.gt_pack.proofs.StandLaws as stand
 use Rattle.gt_moves.specs.Moves.{packed_of, laid_out, found_in, place_of, planned_moves}
-use Rattle.gt_moves.specs.Standing.{last_added, IsStillAt, StandsMoved}
+use Rattle.gt_moves.specs.Standing.{last_added, AddsOne, IsCarried, IsStillAt, StandsMoved}
 use Rattle.gt_moves.specs.declared.moved.Move.{Move}
-use Rattle.gt_moves.proofs.Members.{in_repo, in_moves_of, to_index}
-use Rattle.gt_moves.proofs.Numbers.{Rows, AllRows, in_all, some_records, pack_first, positioned}
+use Rattle.gt_moves.proofs.Members.{in_repo, in_moves_of, to_index, to_filter}
+use Rattle.gt_moves.proofs.Numbers.{IsPart, part_paths, Rows, AllRows, in_all, some_records, pack_first, positioned}
 use Rattle.gt_moves.proofs.Records.{Apart, has_last, last_of, repos_apart, adds_one}
 
 -- ---- one pack
@@ -118,7 +121,33 @@ module _ (states : States) (entries : List Entry) where
       let parts = kept_parts states n (length (files_at path entries)) (contents_at path entries) (flat_map (λ path. contents_at path entries) paths) (length-contents (repos_at path entries)) kept in
       (here_rows n (repos_at path entries) (λ own i e j. in_repo path entries own e i j) (apart path) parts.0, here_paths apart (n + length (files_at path entries)) paths parts.1)
 
+-- what a change adds under a name that it adds once
+only_whole : (change : Change) (a : Added) (q w : List ℕ) → a.name ≡ q → In (added_by change) a → AddsOne change q w → a.whole ≡ w
+only_whole change a q w name i one =
+    let test : same_name a.name q ≡ true = same_test a.name q ∙ ap (λ (x : List ℕ). eq_by_cmp key_cmp q x) name ∙ itself q in
+    ⊎_elim (λ s. ap (λ (x : Added). x.whole) s) absurd (subst (λ (l : List Added). In l a) one (to_filter (λ b. same_name b.name q) (added_by change) a i test))
+
+-- the last record that a change adds under the name of one of its records, where it adds each name once
+carried_last : (change : Change) (a : Added) → In (added_by change) a → HasChangeSpelling change → last_added change a.name ≡ Some a.whole
+carried_last change a i spelled = let (w, last) = has_last change a i in last ∙ ap (λ (x : List ℕ). Some x) (sym (only_whole change a a.name w refl i (adds_one change a.name w spelled last)))
+
 -- ---- moves
+
+module _ (begin next : ℕ) (c : Content) (entries : List Entry) (legal : IsLegal c (begin + 1) entries) where
+  pub is_carried : (m : Move) → In (planned_moves next entries) m → IsCarried begin entries m
+  is_carried m h =
+      let (k, own, part, here) = in_all (IsPart next (next + new_files entries) entries) entries next (paths_of entries) m (part_paths next (next + new_files entries) entries next (paths_of entries) (omega arith) (omega arith)) h in
+      let (e, a, in_own, adds, is) = in_moves_of k own m here in
+      let (i, lt, there) = to_index entries e (part.whole e in_own) in
+      let name : m.name ≡ a.name = ap (λ (x : Move). x.name) is in
+      let whole : m.whole.value ≡ a.whole = ap (λ (x : Move). x.whole.value) is in
+      record {
+        number = i;
+        entry = e;
+        there = there;
+        position = ap (λ (x : Move). x.position) is ∙ positioned c (begin + 1) entries i e legal there;
+        carried = λ s. ap (last_added e.change) name ∙ carried_last e.change a adds s ∙ ap (λ (x : List ℕ). Some x) (sym whole);
+      }
 
 module _ (begin next : ℕ) (c : Content) (entries : List Entry) (states : States) (legal : IsLegal c (begin + 1) entries) (typed : All IsEntry entries) (built : All IsBuilt entries)
     (spelled : HaveSpellings (planned_files next entries)) (kept : AreKept (planned_files next entries) states) where
@@ -146,6 +175,7 @@ module _ (begin next : ℕ) (c : Content) (entries : List Entry) (states : State
         path = ap (λ (x : Move). x.path) is;
         adds = ap (last_added e.change) name ∙ last;
         once = λ s. adds_one e.change m.name w s (ap (last_added e.change) name ∙ last);
+        own = λ s. ap (λ (x : Move). x.whole.value) is ∙ only_whole e.change a m.name w (sym name) adds (adds_one e.change m.name w s (ap (last_added e.change) name ∙ last));
         held =
             subst (λ (x : Move). IsStillAt states x.place w) (sym is)
             (held_in states k own a.name w (records_packed own own_typed first.0.1) (last_of own e a part.apart in_own adds ∙ last) first.0.0);

@@ -7,6 +7,7 @@ use Rattle.gt_applied.specs.Applied.{to_packed}
 use Rattle.gt_apply.specs.Plan.{added_by, records_of, to_added}
 use Rattle.gt_disk.specs.Kinds.{pack_file}
 use Rattle.gt_model.specs.Batches.{files_of, repos_at, files_at, paths_of}
+use Rattle.gt_model.specs.declared.added.Added.{Added}
 use Rattle.gt_model.specs.declared.entry.Entry.{Entry}
 use Rattle.gt_moves.specs.declared.moved.Move.{Move}
 use Rattle.gt_objset.specs.declared.place.Place.{Place}
@@ -34,12 +35,12 @@ place_of n at name = record { file = pack_file n; at = (found_in at name).0; len
 
 -- ---- the moves
 
--- the record of this name that an entry added
-abbrev pub moved : ℕ → List Placed → Entry → List ℕ → Move
-moved n at e name = record { position = e.position; path = e.path; name = name; place = place_of n at name }
+-- a record that an entry added
+abbrev pub moved : ℕ → List Placed → Entry → Added → Move
+moved n at e a = record { position = e.position; path = e.path; name = a.name; place = place_of n at a.name; whole = record { marker = record {}; value = a.whole } }
 
 abbrev pub moves_by : ℕ → List Placed → Entry → List Move
-moves_by n at e = map_list (λ a. moved n at e a.name) (added_by e.change)
+moves_by n at e = map_list (moved n at e) (added_by e.change)
 
 -- the entries of one repository, whose new files are numbered from here on; a pack is the first of them
 abbrev pub moves_of : ℕ → List Entry → List Move

@@ -21,6 +21,14 @@ last_added change name = map.get (with_added map.empty (added_by change)) name
 abbrev pub AddsOne : Change → List ℕ → List ℕ → Type 0
 AddsOne change name whole = filter (λ a. same_name a.name name) (added_by change) ≡ record { name = name; whole = whole } ∷ []
 
+-- A move is of one of the entries past a position, and it has the record that this one added last under its name, where the entry has a spelling.
+pub record IsCarried (begin : ℕ) (entries : List Entry) (m : Move) : Type 0 where
+  pub number : ℕ
+  pub entry : Entry
+  pub there : slice_get entries number ≡ Some entry
+  pub position : m.position ≡ number + (begin + 1)
+  pub carried : HasSpelling entry → last_added entry.change m.name ≡ Some m.whole.value
+
 -- ---- what files hold
 
 -- A file that a stop leaves as it is holds these bytes at the place, and the place has their length.
@@ -30,7 +38,7 @@ pub record IsStillAt (states : States) (place : Place) (whole : List ℕ) : Type
   pub stands : slice_range bytes place.at (place.at + place.len) ≡ whole
   pub long : place.len ≡ length whole
 
--- A move is of one of the entries past a position, with its position and its path. The last record of the move's name that the entry adds stands at the move's place; where the entry has a spelling, it is the only one.
+-- A move is of one of the entries past a position, with its position and its path. The last record of the move's name that the entry adds stands at the move's place; where the entry has a spelling, it is the only one, and the move's.
 pub record StandsMoved (begin : ℕ) (entries : List Entry) (states : States) (m : Move) : Type 0 where
   pub number : ℕ
   pub entry : Entry
@@ -40,4 +48,5 @@ pub record StandsMoved (begin : ℕ) (entries : List Entry) (states : States) (m
   pub path : m.path ≡ entry.path
   pub adds : last_added entry.change m.name ≡ Some whole
   pub once : HasSpelling entry → AddsOne entry.change m.name whole
+  pub own : HasSpelling entry → m.whole.value ≡ whole
   pub held : IsStillAt states m.place whole

@@ -9,7 +9,7 @@ ghost use Rattle.gt_entry.specs.Fits.{IsEntry};
 ghost use Rattle.gt_model.specs.Contents.{Content, IsLegal};
 ghost use Rattle.gt_model.specs.declared.entry.Entry.{Entry};
 ghost use Rattle.gt_moves.specs.Moves.{planned_moves};
-ghost use Rattle.gt_moves.specs.Standing.{StandsMoved};
+ghost use Rattle.gt_moves.specs.Standing.{IsCarried, StandsMoved};
 ghost use Rattle.gt_moves.specs.Within.{IsWithin, IsMoveOf};
 
 /// Over entries that come next, each move is of one of them, and to a pack among the files that an application of them adds.
@@ -20,6 +20,11 @@ pub fn moves_are_within()
 /// Each record that an entry adds has a move.
 pub fn every_added_record_moves()
     ensures { (next : ℕ) (entries : List Entry) → All (λ e. All (λ a. Any (IsMoveOf e a) (planned_moves next entries)) (added_by e.change)) entries }
+{}
+
+/// Over entries that come next, each move has the record that its entry added.
+pub fn moves_have_their_records()
+    ensures { (begin next : ℕ) (c : Content) (entries : List Entry) → IsLegal c (begin + 1) entries → All (IsCarried begin entries) (planned_moves next entries) }
 {}
 
 /// Where entries of kinds that are built come next, and the files that an application of them adds last as they are spelled,

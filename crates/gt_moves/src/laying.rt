@@ -2,15 +2,15 @@
 ghost use Rattle.std.specs.Prelude.{◌≡◌, None, IfOk, OnOk};
 ghost use Rattle.std.specs.BTreeMap.{IsOrdered};
 ghost use Rattle.std.specs.FinMap as map;
-ghost use Rattle.gt_apply.specs.Plan.{added_by};
 ghost use Rattle.gt_apply.specs.Steps.{seen};
 ghost use Rattle.gt_model.specs.Contents.{key_cmp};
 ghost use Rattle.gt_moves.specs.Laying.{with_lengths, lengths_of, spaced};
 ghost use Rattle.gt_moves.specs.Moves.{laid_out};
 ghost use Rattle.gt_pack.specs.Index.{Rises};
 
+use gt_apply::added_by;
 use gt_list::{ListOf, NoMemory};
-use gt_model::{Added, Change, Entry};
+use gt_model::{Added, Entry};
 use gt_name::Name;
 use gt_pack::Placed;
 use std::alloc::Global;
@@ -47,27 +47,12 @@ fn add_records(tree: &mut LengthTree, added: &[Added]) -> Result<(), NoMemory>
     Ok(())
 }
 
-fn add_change(tree: &mut LengthTree, change: &Change) -> Result<(), NoMemory>
-    ensures { OnOk result (map.from_entries {R = key_cmp} tree.new.entries ≡ with_lengths (map.from_entries tree.old.entries) (added_by change.now)) }
-{
-    match change {
-        Change::Write { added, .. } => add_records(tree, added.as_slice()),
-        Change::Create { .. } => Ok(()),
-        Change::Delete => Ok(()),
-        Change::Link { .. } => Ok(()),
-        Change::Repack { .. } => Ok(()),
-        Change::Prune { .. } => Ok(()),
-        Change::PackRefs { .. } => Ok(()),
-        Change::Unlink { .. } => Ok(()),
-    }
-}
-
 fn tree_of(alloc: Global, own: &[&Entry]) -> Result<LengthTree, NoMemory>
     ensures { IfOk result (λ tree. map.from_entries {R = key_cmp} tree.entries ≡ lengths_of (seen own.now)) }
 {
     let mut tree = BTreeMap::new(alloc);
     for entry in own {
-        add_change(&mut tree, &entry.change)?;
+        add_records(&mut tree, added_by(&entry.change))?;
     }
     Ok(tree)
 }

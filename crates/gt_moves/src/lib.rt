@@ -9,6 +9,8 @@ mod moved;
 mod moving;
 mod planning;
 
-pub use laws::{every_added_record_moves, moved_records_stand, moves_are_within};
+pub use laws::{
+    every_added_record_moves, moved_records_stand, moves_are_within, moves_have_their_records,
+};
 pub use moved::{Move, Moves};
 pub use planning::planned_moves;

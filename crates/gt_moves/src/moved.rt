@@ -1,6 +1,8 @@
 use gt_list::ListOf;
 use gt_name::{Name, RepoPath};
+use gt_object::Record;
 use gt_objset::Place;
+use std::snapshot::Snapshot;
 
 /// An own object of a repository stands at another place from now on.
 #[derive(Drop)]
@@ -13,6 +15,8 @@ pub struct Move {
     pub name: Name,
     /// Where its record stands.
     pub place: Place,
+    /// The record. It has no bytes here: contracts alone see it.
+    pub whole: Snapshot<Record>,
 }
 
 /// Moves, repository after repository.

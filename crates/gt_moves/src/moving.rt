@@ -8,33 +8,26 @@ ghost use Rattle.gt_pack.specs.Index.{Rises};
 use crate::finding::place_of;
 use crate::laying::laid_out;
 use crate::{Move, Moves};
-use gt_apply::{Own, count_files, repos_at};
+use gt_apply::{Own, added_by, copied_path, count_files, repos_at};
 use gt_list::NoMemory;
-use gt_model::{Added, Change, Entry};
-use gt_name::{Name, RepoPath};
+use gt_model::{Added, Entry};
+use gt_name::RepoPath;
 use gt_pack::Placed;
 use std::alloc::Global;
-
-fn copied_path(path: &RepoPath) -> Result<RepoPath, NoMemory>
-    ensures { IfOk result (λ copy. copy ≡ path.now) }
-{
-    match path.clone() {
-        Ok(copy) => Ok(copy),
-        Err(_) => Err(NoMemory),
-    }
-}
+use std::snapshot::Snapshot;
 
 /// The move of a record that an entry added.
-fn moved(number: u64, places: &[Placed], entry: &Entry, name: &Name) -> Result<Move, NoMemory>
+fn moved(number: u64, places: &[Placed], entry: &Entry, item: &Added) -> Result<Move, NoMemory>
     requires { Rises None places.now }
-    ensures { IfOk result (λ m. m ≡ moved number places.now entry.now name.now) }
+    ensures { IfOk result (λ m. m ≡ moved number places.now entry.now item.now) }
 {
     let path = copied_path(&entry.path)?;
     Ok(Move {
         position: entry.position,
         path,
-        name: *name,
-        place: place_of(number, places, name),
+        name: item.name,
+        place: place_of(number, places, &item.name),
+        whole: Snapshot::of(&item.whole),
     })
 }
 
@@ -46,33 +39,12 @@ fn add_records(
     added: &[Added],
 ) -> Result<(), NoMemory>
     requires { Rises None places.now }
-    ensures { OnOk result (moves.new ≡ moves.old ++ map_list (λ a. moved number places.now entry.now a.name) added.now) }
+    ensures { OnOk result (moves.new ≡ moves.old ++ map_list (moved number places.now entry.now) added.now) }
 {
     for item in added {
-        moves.push(moved(number, places, entry, &item.name)?)?;
+        moves.push(moved(number, places, entry, item)?)?;
     }
     Ok(())
-}
-
-fn add_entry(
-    moves: &mut Moves,
-    number: u64,
-    places: &[Placed],
-    entry: &Entry,
-) -> Result<(), NoMemory>
-    requires { Rises None places.now }
-    ensures { OnOk result (moves.new ≡ moves.old ++ moves_by number places.now entry.now) }
-{
-    match &entry.change {
-        Change::Write { added, .. } => add_records(moves, number, places, entry, added.as_slice()),
-        Change::Create { .. } => Ok(()),
-        Change::Delete => Ok(()),
-        Change::Link { .. } => Ok(()),
-        Change::Repack { .. } => Ok(()),
-        Change::Prune { .. } => Ok(()),
-        Change::PackRefs { .. } => Ok(()),
-        Change::Unlink { .. } => Ok(()),
-    }
 }
 
 fn add_entries(
@@ -85,7 +57,7 @@ fn add_entries(
     ensures { OnOk result (moves.new ≡ moves.old ++ flat_map (moves_by number places.now) (seen own.now)) }
 {
     for entry in own {
-        add_entry(moves, number, places, entry)?;
+        add_records(moves, number, places, entry, added_by(&entry.change))?;
     }
     Ok(())
 }

@@ -4,4 +4,4 @@ use Rattle.gt_moves.proofs.moving.add_records.Given as goal
 
 -- what was added, and what is left to add
 abbrev pub invariant-loop-item : goal.invariant-loop-item
-invariant-loop-item l = l.moves ++ map (λ a. moved l.number l.places l.entry a.name) (drop l.item-index l.added) ≡ l.initial.moves ++ map (λ a. moved l.number l.places l.entry a.name) l.added
+invariant-loop-item l = l.moves ++ map (moved l.number l.places l.entry) (drop l.item-index l.added) ≡ l.initial.moves ++ map (moved l.number l.places l.entry) l.added

@@ -1,0 +1,9 @@
+pub mod Numbers
+pub mod Entries
+pub mod Positions
+pub mod Plans
+pub mod First
+pub mod Followed
+pub mod Later
+pub mod Repointed
+pub mod Chains
