@@ -1,4 +1,4 @@
-ghost use Rattle.std.specs.Prelude.{◌≡◌, ◌↔◌, ◌≤◌, ◌<◌, ◌++◌, ◌∷◌, [], ℕ, length, nat_eq, find, true, false, Some, IsErr, IfOk, OnErr};
+ghost use Rattle.std.specs.Prelude.{◌≡◌, ◌↔◌, ◌≤◌, ◌<◌, ◌++◌, ◌∷◌, [], ℕ, length, nat_eq, find, map as map_list, true, false, Some, IsErr, IfOk, OnErr};
 ghost use Rattle.gt_model.specs.Machine.{is_live, is_live_as, is_transaction, free_number, released, reading};
 ghost use Rattle.gt_pins.specs.Live.{pin_of};
 
@@ -52,6 +52,13 @@ impl Live {
         ensures { result ≡ is_live self.now pin.now }
     {
         self.has(pin.number)
+    }
+
+    /// The transactions, in order of beginning.
+    pub fn as_slice(&self) -> &[LivePin]
+        ensures { map_list pin_of result.now ≡ self.now }
+    {
+        self.pins.as_slice()
     }
 
     /// The transaction of a live pin.

@@ -1,0 +1,5 @@
+mod Among
+mod Exact
+mod Lowest
+mod Removals
+mod Sets
