@@ -70,7 +70,7 @@ module _ (limits : Limits) where
 
   -- the same log and doubt, whatever is live
   pub same_files : (l m : Ledger) (pins after : List Pin) (states : States) → m ≡ l → Stored limits (state_of l pins) states → Stored limits (state_of m after) states
-  same_files l m pins after states same stored = subst (λ (x : Ledger). Stored limits (state_of x after) states) (sym same) (record { files = stored.files; legal = stored.legal; within = stored.within; order = record { from = stored.order.from; to = stored.order.to; turn = stored.order.turn }; base = stored.base; turn = stored.turn })
+  same_files l m pins after states same stored = subst (λ (x : Ledger). Stored limits (state_of x after) states) (sym same) (record { files = stored.files; legal = stored.legal; within = stored.within; order = record { begins = stored.order.begins; from = stored.order.from; to = stored.order.to; turn = stored.order.turn }; base = stored.base; turn = stored.turn })
 
   pub settling_pins : (old : State) (l m : Ledger) (pins after : List Pin) (v w : View) → m ≡ l → Settling limits old (state_of l pins) v w → Moves limits old (state_of m after) v w
   settling_pins old l m pins after v w same settling =

@@ -31,6 +31,7 @@ pub fn cat<D: Disk>(
     requires { is_live state.now.live pin.now ≡ true }
     ensures happens { CatHappens limits.now (state_of state.now) pin.now name.now result.answer }
     ensures kept { IsKeptOf (state_of state.now) (Event.Cat pin.now name.now) result }
+    ensures whole { state.now.journal.floor ≡ state.now.journal.past.begin }
     ensures gives { IsTrue D.tells → CatGives state.now.journal.past (state_of state.now) pin.now name.now (D.view disk.old).reads result.answer }
     ensures hidden { place_at state.now.journal.past (pin_of (state_of state.now) pin.now).position (pin_of (state_of state.now) pin.now).path name.now ≡ None → result.answer ≡ Err (Why.Absent name.now) }
     ensures memory { IsTrue D.tells → result.answer ≡ Err Why.Memory → (disk.new ≡ disk.old) ⊎ CatNamed state.now.journal.past (state_of state.now) pin.now name.now (D.view disk.old).reads }

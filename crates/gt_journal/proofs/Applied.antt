@@ -35,17 +35,22 @@ use Rattle.gt_model.specs.Batches.{new_files}
 use Rattle.gt_model.specs.Contents.{Content, after_all, IsLegal}
 use Rattle.gt_model.specs.Machine as machine
 use Rattle.gt_model.specs.Machine.{Pin, State, Recovered, Applying, content_at, recovered_of, with_doubt, line, turned, turned_by, numbered, has_no_number, applied_by, applies, answers, refuses, effect, Ends, Fails, SettledEntry, SettledTurn, MayRecover}
-use Rattle.gt_table.specs.Table.{base, front, content_at as content_past}
+use Rattle.gt_table.specs.Table.{Tables, base, front, floor, content_at as content_past}
 use Rattle.gt_journal.specs.Applying.{next_entries}
 use Rattle.gt_journal.specs.Carried.{IsLogged, IsCarried, IsCarriedNext, IsMemory}
 use Rattle.gt_journal.specs.Histories.{Gives, GivesEither, Goes}
-use Rattle.gt_journal.specs.Ledger.{Ledger, state_of, applying, HasBase, HasTurn, HasManifest, HasNext, FilesHave, Stored, Remembers}
+use Rattle.gt_journal.specs.Ledger.{Ledger, state_of, past_floor, applying, HasBase, HasTurn, HasManifest, HasNext, FilesHave, Stored, Remembers}
+use Rattle.gt_journal.proofs.Floors.{drop_two}
 use Rattle.gt_journal.proofs.Framed.{log_beside, base_beside, new_base, manifest_beside, manifest_lasts}
 use Rattle.gt_journal.proofs.Images.{stored_gives}
 use Rattle.gt_journal.proofs.Opened.{below_later}
 use Rattle.gt_journal.proofs.Part.{all_part, all_take, legal_part, legal_take, part_within, content_part, take_short, jobs_fit}
 
 -- ---- the entries that are applied
+
+-- they are in memory, since they stand past the floor
+pub part_past : (t : Tables) (applied n : ℕ) → floor t ≤ applied → take n (drop (applied - floor t) (drop t.gone t.past.log)) ≡ take n (drop (applied - t.past.begin) t.past.log)
+part_past t applied n low = ap (take n) (drop_two t.gone (applied - floor t) t.past.log ∙ ap (λ (k : ℕ). drop k t.past.log) (let e : t.gone + (applied - floor t) ≡ applied - t.past.begin = omega (arith, low) in e))
 
 module _ (l : Ledger) (n : ℕ) (memory : IsMemory l) where
   abbrev m : Manifest
@@ -141,6 +146,8 @@ pub memory_switched : (l : Ledger) (n : ℕ) → (memory : IsMemory l) → l.dou
 memory_switched l n memory clear fits lists = record {
   logged = memory.logged;
   carried = record { now = to_carried l n memory fits lists; later = λ x is. absurd (cc (is)) };
+  begins = memory.begins;
+  floor = omega (arith, memory.floor);
   doubt = λ e is. absurd (cc (sym clear ∙ is));
 }
 
@@ -154,6 +161,8 @@ memory_turning l n memory clear some fits lists = record {
         let same : planned l.base.manifest l.next (next_entries l n) ≡ x = cc (is) in
         subst (IsCarriedNext l.past (l.next + new_files (next_entries l n)) l.base.manifest) same (record { carried = to_carried l n memory fits lists; epoch = refl; more = omega (arith, some) });
   };
+  begins = memory.begins;
+  floor = memory.floor;
   doubt = λ e is. absurd (cc (sym clear ∙ is));
 }
 
@@ -189,8 +198,8 @@ module _ (limits : Limits) (l : Ledger) (memory : IsMemory l) (flat : l.base.dou
   pub base_stays : (states : States) → Beside states → HasBase limits l.base.manifest.epoch l.base.manifest.applied l.base.manifest.next (content_past l.past l.base.manifest.applied) states
   base_stays states apart = base_beside limits l.base.manifest l.next memory.carried.now.fits memory.carried.now.numbers (content_past l.past l.base.manifest.applied) states_before shown shows stored.base remembers.manifest states apart
 
-  pub log_stays : (states : States) → Beside states → FilesHave (l.past.begin + 1) l.past.log l.doubt states
-  log_stays states apart = log_beside (l.past.begin + 1) l.past.log l.doubt l.base.manifest.epoch l.next states_before states apart stored.files
+  pub log_stays : (states : States) → Beside states → FilesHave (l.floor + 1) (past_floor l) l.doubt states
+  log_stays states apart = log_beside (l.floor + 1) (past_floor l) l.doubt l.base.manifest.epoch l.next states_before states apart stored.files
 
   -- the old state, where turn counts its epoch
   pub stays : (pins : List Pin) (states : States) → Counts l.base.manifest.epoch states → Beside states → Stored limits (state_of l pins) states
@@ -198,7 +207,7 @@ module _ (limits : Limits) (l : Ledger) (memory : IsMemory l) (flat : l.base.dou
     files = log_stays states apart;
     legal = stored.legal;
     within = stored.within;
-    order = record { from = stored.order.from; to = stored.order.to; turn = stored.order.turn };
+    order = record { begins = stored.order.begins; from = stored.order.from; to = stored.order.to; turn = stored.order.turn };
     base = base_stays states apart;
     turn = subst (λ (d : Option Manifest). HasTurn limits l.base.manifest.epoch (content_past l.past) (option_map applying d) states) (sym flat) counts;
   }
@@ -266,7 +275,7 @@ module _ (limits : Limits) (l : Ledger) (n : ℕ) (memory : IsMemory l) (clear :
     files = log_stays limits l memory flat before states_before shown shows stored remembers states apart;
     legal = stored.legal;
     within = stored.within;
-    order = record { from = stored.order.from; to = stored.order.to; turn = (omega (arith, some), part_there l n memory, omega arith) };
+    order = record { begins = stored.order.begins; from = stored.order.from; to = stored.order.to; turn = (omega (arith, some), part_there l n memory, omega arith) };
     base = base_stays limits l memory flat before states_before shown shows stored remembers states apart;
     turn = (a.turns.turn, base_goes_on states a.turns.next a.spelled a.kept apart);
   }
@@ -277,7 +286,7 @@ module _ (limits : Limits) (l : Ledger) (n : ℕ) (memory : IsMemory l) (clear :
     files = log_stays limits l memory flat before states_before shown shows stored remembers states apart;
     legal = stored.legal;
     within = stored.within;
-    order = record { from = omega (arith, stored.order.from); to = part_there l n memory; turn = tt };
+    order = record { begins = stored.order.begins; from = omega (arith, stored.order.from); to = part_there l n memory; turn = tt };
     base = base_goes_on states a.switched.1 a.spelled a.kept apart;
     turn = a.switched.0;
   }

@@ -24,6 +24,7 @@ use Rattle.gt_journal.specs.Histories.{Gives, GivesThis}
 use Rattle.gt_journal.proofs.Recovering.{entries_read, log_back, log_still, kept_front, map_last, KeepsFiles, keeps, keeps_front}
 use Rattle.gt_journal.proofs.Based.{base_kept, gives_log, with_log, parts_of, recovers_loaded}
 use Rattle.gt_journal.proofs.Steady.{stands_steady, doubts_steady}
+use Rattle.gt_journal.proofs.Floors.{drop_two, drop_more, content_on, kept_rest}
 
 -- each entry of what recovers fits
 pub recovered_legal : (limits : Limits) (files : Files) (r : Recovered) → recover limits files ≡ Ok r → IsLegal r.base (r.applied + 1) r.log
@@ -56,7 +57,7 @@ turning_more applied low high next (Some a) le order = (order.0, omega (arith, o
 pub order_more : (s : State) (more : List Entry) → AreApplied s → AreApplied (with_more s more)
 order_more s more order =
     let longer : machine.front s ≤ machine.front (with_more s more) = omega (arith, length-append s.log more) in
-    record { from = order.from; to = omega (arith, order.to, longer); turn = turning_more s.applied (machine.front s) (machine.front (with_more s more)) s.next s.turning longer order.turn }
+    record { begins = order.begins; from = order.from; to = omega (arith, order.to, longer); turn = turning_more s.applied (machine.front s) (machine.front (with_more s more)) s.next s.turning longer order.turn }
 
 -- ---- images of a base and a log
 
@@ -70,9 +71,19 @@ keeps_rest first count log states le still k lt =
     let here = still (k + count) (omega (arith, lt, le, length-drop count log)) in
     (here.0, ap (λ (n : ℕ). states (record { kind = 4; number = n })) (let e : k + (first + count) ≡ k + count + first = omega arith in e) ∙ here.1)
 
+-- the entries of a log that the files of a state have
+abbrev pub rest_of : State → List Entry → List Entry
+rest_of s log = drop (s.floor - s.begin) log
+
+gone_within : (s : State) → AreApplied s → s.floor - s.begin ≤ length s.log
+gone_within s order = omega (arith, order.from, order.to)
+
+pub rest_more : (s : State) → AreApplied s → (more : List Entry) → rest_of s (s.log ++ more) ≡ rest_of s s.log ++ more
+rest_more s order more = drop_more (s.floor - s.begin) s.log more (gone_within s order)
+
 module _
-    (limits : Limits) (s : State) (order : AreApplied s) (states : States) (image : Files) (is : IsImage states image) (log : List Entry) (more : List Entry) (whole : log ≡ s.log ++ more) (r : Recovers (s.begin + 1) image (map encode log))
-    (still : KeepsFiles (s.begin + 1) log states) (kept : IsKept s.base (s.begin + 1) log) (within : s.begin + length log ≤ limits.positions) where
+    (limits : Limits) (s : State) (order : AreApplied s) (states : States) (image : Files) (is : IsImage states image) (log : List Entry) (more : List Entry) (whole : log ≡ s.log ++ more) (r : Recovers (s.floor + 1) image (map encode (rest_of s log)))
+    (still : KeepsFiles (s.floor + 1) (rest_of s log) states) (kept : IsKept s.base (s.begin + 1) log) (within : s.begin + length log ≤ limits.positions) where
   -- nothing is in doubt, and the log is this one
   abbrev there : State
   there = record s { log = log; doubt = None }
@@ -80,21 +91,43 @@ module _
   long : length s.log ≤ length log
   long = omega (arith, ap (λ (l : List Entry). length l) whole, length-append s.log more)
 
+  abbrev gone : ℕ
+  gone = s.floor - s.begin
+
+  abbrev rest : List Entry
+  rest = rest_of s log
+
+  -- the content at the floor
+  abbrev at_floor : Content
+  at_floor = after_all s.base (take gone log)
+
+  gone_few : gone ≤ length log
+  gone_few = omega (arith, gone_within s order, long)
+
+  kept_past : IsKept at_floor (s.floor + 1) rest
+  kept_past = subst (λ (first : ℕ). IsKept at_floor first rest) (let e : s.begin + 1 + gone ≡ s.floor + 1 = omega (arith, order.begins) in e) (kept_rest s.base (s.begin + 1) gone log gone_few kept)
+
   -- a base at a position of the log, and the rest past it
-  base_image : (epoch applied next : ℕ) → s.begin ≤ applied → applied ≤ machine.front s → HasBase limits epoch applied next (content_at s applied) states → content_length (image turn_file) ≡ epoch
+  base_image : (epoch applied next : ℕ) → s.floor ≤ applied → applied ≤ machine.front s → HasBase limits epoch applied next (content_at s applied) states → content_length (image turn_file) ≡ epoch
       → GivesLog limits (with_log epoch applied next (content_at there applied) (drop (applied - s.begin) log)) states image
   base_image epoch applied next from to has turn_is =
-      let count : ℕ = applied - s.begin in
-      let some : count ≤ length log = omega (arith, to, long) in
-      let same : content_at there applied ≡ content_at s applied = ap (λ (l : List Entry). after_all s.base (take count l)) whole ∙ content_more s more applied to in
+      let count : ℕ = applied - s.floor in
+      let far : gone + count ≡ applied - s.begin = omega (arith, from, order.begins) in
+      let rest_long : length rest ≡ length log - gone = length-drop gone log in
+      let some : count ≤ length rest = omega (arith, rest_long, to, long, from, order.begins) in
+      let left_long : length (drop (applied - s.begin) log) ≡ length log - (applied - s.begin) = length-drop (applied - s.begin) log in
+      let same : content_at there applied ≡ content_at s applied = ap (λ (l : List Entry). after_all s.base (take (applied - s.begin) l)) whole ∙ content_more s more applied to in
       let here = subst (λ (c : Content). HasBase limits epoch applied next c states) (sym same) has in
-      let read = skip image count s.base (s.begin + 1) (length log) log (entries_read image s.base (s.begin + 1) log r kept) some in
-      let first : s.begin + 1 + count ≡ applied + 1 = omega (arith, from) in
-      let left : length log - count ≡ length (drop count log) = omega (arith, length-drop count log) in
-      let rest : run image (entries_in (content_at there applied) (applied + 1) (length (drop count log))) ≡ Ok (drop count log) = sym (λ i. run image (entries_in (content_at there applied) (first i) (left i))) ∙ read in
-      let files : KeepsFiles (applied + 1) (drop count log) states = subst (λ (n : ℕ). KeepsFiles n (drop count log) states) first (keeps_rest (s.begin + 1) count log states some still) in
-      gives_log limits epoch applied next (content_at there applied) (drop count log) states image here is turn_is (omega (arith, r.count, length-map log encode, length-drop count log, from, some)) (omega (arith, within, length-drop count log, from, some)) rest
-      (log_still image states (content_at there applied) (applied + 1) (length (drop count log)) (drop count log) rest files)
+      let read = skip image count at_floor (s.floor + 1) (length rest) rest (entries_read image at_floor (s.floor + 1) rest r kept_past) some in
+      let content_is : after_all at_floor (take count rest) ≡ content_at there applied = content_on s.base gone count log ∙ ap (λ (n : ℕ). after_all s.base (take n log)) far in
+      let left_is : drop count rest ≡ drop (applied - s.begin) log = drop_two gone count log ∙ ap (λ (n : ℕ). drop n log) far in
+      let first : s.floor + 1 + count ≡ applied + 1 = omega (arith, from) in
+      let left : length rest - count ≡ length (drop (applied - s.begin) log) = omega (arith, rest_long, left_long, far) in
+      let there_read : run image (entries_in (content_at there applied) (applied + 1) (length (drop (applied - s.begin) log))) ≡ Ok (drop (applied - s.begin) log) = sym (λ i. run image (entries_in (content_is i) (first i) (left i))) ∙ read ∙ ap Ok left_is in
+      let files : KeepsFiles (applied + 1) (drop (applied - s.begin) log) states =
+      subst (λ (l : List Entry). KeepsFiles (applied + 1) l states) left_is (subst (λ (n : ℕ). KeepsFiles n (drop count rest) states) first (keeps_rest (s.floor + 1) count rest states some still)) in
+      gives_log limits epoch applied next (content_at there applied) (drop (applied - s.begin) log) states image here is turn_is (omega (arith, r.count, length-map rest encode, rest_long, left_long, from, to, long, order.begins)) (omega (arith, within, left_long, from, to, long, order.begins)) there_read
+      (log_still image states (content_at there applied) (applied + 1) (length (drop (applied - s.begin) log)) (drop (applied - s.begin) log) there_read files)
 
   -- what the image gives where the state's doubt is settled so
   log_gives : SettledEntry true s there → (turning : Option Applying) → s.turning ≡ turning → HasApplied limits s states → HasTurn limits s.epoch (content_at s) turning states → machine.IsTurningIn s.applied (machine.front s) s.next turning → Gives limits s states image
@@ -152,12 +185,21 @@ bases_more limits s more states has = record { order = order_more s more has.ord
 
 module _ (limits : Limits) (s : State) (states : States) (has : HasBases limits s states) (image : Files) (is : IsImage states image) where
   -- the image has this log, with which the state's doubt is settled
-  pub stands_image : (log more : List Entry) → log ≡ s.log ++ more → SettledEntry true s (record s { log = log; doubt = None }) → Recovers (s.begin + 1) image (map encode log) → KeepsFiles (s.begin + 1) log states → IsKept s.base (s.begin + 1) log → s.begin + length log ≤ limits.positions → Gives limits s states image
+  pub stands_image : (log more : List Entry) → log ≡ s.log ++ more → SettledEntry true s (record s { log = log; doubt = None }) → Recovers (s.floor + 1) image (map encode (rest_of s log)) → KeepsFiles (s.floor + 1) (rest_of s log) states → IsKept s.base (s.begin + 1) log → s.begin + length log ≤ limits.positions → Gives limits s states image
   stands_image log more whole settled r still kept within = log_gives limits s has.order states image is log more whole r still kept within settled s.turning refl has.base has.turn has.order.turn
 
-  pub log_image : Stands (s.begin + 1) (map encode s.log) states → IsKept s.base (s.begin + 1) s.log → s.begin + length s.log ≤ limits.positions → Gives limits s states image
+  abbrev had : List Entry
+  had = rest_of s s.log
+
+  pub log_image : Stands (s.floor + 1) (map encode had) states → IsKept s.base (s.begin + 1) s.log → s.begin + length s.log ≤ limits.positions → Gives limits s states image
   log_image stands kept within =
-      stands_image s.log [] (sym (append-nil s.log)) (inl refl) (stands_recovers (s.begin + 1) (map encode s.log) states stands image is) (keeps (s.begin + 1) s.log states stands.each) kept within
+      stands_image s.log [] (sym (append-nil s.log)) (inl refl) (stands_recovers (s.floor + 1) (map encode had) states stands image is) (keeps (s.floor + 1) had states stands.each) kept within
+
+  -- the same of a log with more behind it
+  pub more_image : (more : List Entry) → SettledEntry true s (record s { log = s.log ++ more; doubt = None }) → Recovers (s.floor + 1) image (map encode (had ++ more)) → KeepsFiles (s.floor + 1) (had ++ more) states → IsKept s.base (s.begin + 1) (s.log ++ more) → s.begin + length (s.log ++ more) ≤ limits.positions → Gives limits s states image
+  more_image more settled r still kept within =
+      let is_rest = sym (rest_more s has.order more) in
+      stands_image (s.log ++ more) more refl settled (subst (λ (l : List Entry). Recovers (s.floor + 1) image (map encode l)) is_rest r) (subst (λ (l : List Entry). KeepsFiles (s.floor + 1) l states) is_rest still) kept within
 
   module _ (u : Entry) (kept : IsKept s.base (s.begin + 1) (s.log ++ u ∷ [])) (within : s.begin + length (s.log ++ u ∷ []) ≤ limits.positions) where
     -- the entry is out, or it is in
@@ -168,32 +210,32 @@ module _ (limits : Limits) (s : State) (states : States) (has : HasBases limits 
     shorter = omega (arith, within, length-append s.log (u ∷ []))
 
     -- where the old state and the new one may both have it, as in doubt or in
-    pub doubts_image : (new : State) → (Recovers (s.begin + 1) image (map encode (s.log ++ u ∷ [])) → KeepsFiles (s.begin + 1) (s.log ++ u ∷ []) states → Gives limits new states image)
-        → Doubts (s.begin + 1) (map encode s.log) (encode u) states → OutOrIn new
+    pub doubts_image : (new : State) → (Recovers (s.floor + 1) image (map encode (rest_of s s.log ++ u ∷ [])) → KeepsFiles (s.floor + 1) (rest_of s s.log ++ u ∷ []) states → Gives limits new states image)
+        → Doubts (s.floor + 1) (map encode (rest_of s s.log)) (encode u) states → OutOrIn new
     doubts_image new in_gives doubts =
-        let still : KeepsFiles (s.begin + 1) (s.log ++ u ∷ []) states = keeps (s.begin + 1) (s.log ++ u ∷ []) states (subst (λ (e : List (List ℕ)). KeepsEntries (s.begin + 1) e states) (sym (map_last s.log u)) doubts.each) in
+        let still : KeepsFiles (s.floor + 1) (rest_of s s.log ++ u ∷ []) states = keeps (s.floor + 1) (had ++ u ∷ []) states (subst (λ (e : List (List ℕ)). KeepsEntries (s.floor + 1) e states) (sym (map_last had u)) doubts.each) in
         ⊎_elim
-        (λ out. inl (stands_image s.log [] (sym (append-nil s.log)) (inl refl) out (keeps_front (s.begin + 1) s.log u states still) (kept_front s.base (s.begin + 1) s.log (u ∷ []) kept) shorter))
-        (λ in_. inr (in_gives (subst (λ (e : List (List ℕ)). Recovers (s.begin + 1) image e) (sym (map_last s.log u)) in_) still))
-        (doubts_recovers (s.begin + 1) (map encode s.log) (encode u) states doubts image is)
+        (λ out. inl (stands_image s.log [] (sym (append-nil s.log)) (inl refl) out (keeps_front (s.floor + 1) had u states still) (kept_front s.base (s.begin + 1) s.log (u ∷ []) kept) shorter))
+        (λ in_. inr (in_gives (subst (λ (e : List (List ℕ)). Recovers (s.floor + 1) image e) (sym (map_last had u)) in_) still))
+        (doubts_recovers (s.floor + 1) (map encode had) (encode u) states doubts image is)
 
-    pub adding_image : (new : State) → (Recovers (s.begin + 1) image (map encode (s.log ++ u ∷ [])) → KeepsFiles (s.begin + 1) (s.log ++ u ∷ []) states → Gives limits new states image)
-        → (before : States) → Adding (s.begin + 1) (map encode s.log) (encode u) before states → OutOrIn new
+    pub adding_image : (new : State) → (Recovers (s.floor + 1) image (map encode (rest_of s s.log ++ u ∷ [])) → KeepsFiles (s.floor + 1) (rest_of s s.log ++ u ∷ []) states → Gives limits new states image)
+        → (before : States) → Adding (s.floor + 1) (map encode (rest_of s s.log)) (encode u) before states → OutOrIn new
     adding_image new in_gives before adding = ⊎_elim (λ stands. inl (log_image stands (kept_front s.base (s.begin + 1) s.log (u ∷ []) kept) shorter)) (λ doubts. doubts_image new in_gives doubts) adding.log
 
 -- where the entry is in doubt, the state may have it in
 pub doubted_gives : (limits : Limits) (s : State) (states : States) → HasBases limits s states → (image : Files) → IsImage states image → (u : Entry) → IsKept s.base (s.begin + 1) (s.log ++ u ∷ []) → s.begin + length (s.log ++ u ∷ []) ≤ limits.positions → s.doubt ≡ Some u
-    → Recovers (s.begin + 1) image (map encode (s.log ++ u ∷ [])) → KeepsFiles (s.begin + 1) (s.log ++ u ∷ []) states → Gives limits s states image
+    → Recovers (s.floor + 1) image (map encode (rest_of s s.log ++ u ∷ [])) → KeepsFiles (s.floor + 1) (rest_of s s.log ++ u ∷ []) states → Gives limits s states image
 doubted_gives limits s states has image is u kept within doubted r still =
-    stands_image limits s states has image is (s.log ++ u ∷ []) (u ∷ []) refl (inr (ap (λ (d : Option Entry). record s { log = with_doubt s.log d; doubt = None }) (sym doubted))) r still kept within
+    more_image limits s states has image is (u ∷ []) (inr (ap (λ (d : Option Entry). record s { log = with_doubt s.log d; doubt = None }) (sym doubted))) r still kept within
 
-gives_by : (limits : Limits) (s : State) (doubt : Option Entry) (states : States) → s.doubt ≡ doubt → HasBases limits s states → FilesHave (s.begin + 1) s.log doubt states → IsKept s.base (s.begin + 1) (with_doubt s.log doubt) → s.begin + length (with_doubt s.log doubt) ≤ limits.positions → GivesThis limits s states
+gives_by : (limits : Limits) (s : State) (doubt : Option Entry) (states : States) → s.doubt ≡ doubt → HasBases limits s states → FilesHave (s.floor + 1) (rest_of s s.log) doubt states → IsKept s.base (s.begin + 1) (with_doubt s.log doubt) → s.begin + length (with_doubt s.log doubt) ≤ limits.positions → GivesThis limits s states
 gives_by limits s None states clear has files kept within = record {
-  steady = steady_by limits states (stands_steady (s.begin + 1) (map encode s.log) states files) (bases_steady limits s states has);
+  steady = steady_by limits states (stands_steady (s.floor + 1) (map encode (rest_of s s.log)) states files) (bases_steady limits s states has);
   gives = λ image is. log_image limits s states has image is files kept within;
 }
 gives_by limits s (Some u) states doubted has files kept within = record {
-  steady = steady_by limits states (doubts_steady (s.begin + 1) (map encode s.log) (encode u) states files) (bases_steady limits s states has);
+  steady = steady_by limits states (doubts_steady (s.floor + 1) (map encode (rest_of s s.log)) (encode u) states files) (bases_steady limits s states has);
   gives = λ image is.
       ⊎_elim (λ out. out) (λ in_. in_)
       (doubts_image limits s states has image is u kept within s (doubted_gives limits s states has image is u kept within doubted) files);

@@ -5,6 +5,7 @@ pub mod Typing
 pub mod LoadSteps
 pub mod Steady
 pub mod Based
+pub mod Floors
 pub mod Images
 pub mod Moves
 pub mod Good

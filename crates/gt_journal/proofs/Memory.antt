@@ -77,6 +77,8 @@ pub memory_push : (l : Ledger) (e : Entry) → IsMemory l → e.position ≡ fro
 memory_push l e m at fit typed spelled built = record {
   logged = logged_push l.past e m.logged at fit typed spelled built;
   carried = carries_more l.past (e ∷ []) l.next l.base m.carried;
+  begins = m.begins;
+  floor = m.floor;
   doubt = λ x is. absurd (cc (is));
 }
 
@@ -85,9 +87,11 @@ pub memory_doubt : (l : Ledger) (e : Entry) → IsMemory l → IsEntry e → Has
 memory_doubt l e m typed spelled = record {
   logged = m.logged;
   carried = m.carried;
+  begins = m.begins;
+  floor = m.floor;
   doubt = λ x is. let same : e ≡ x = cc (is) in subst (λ (y : Entry). IsEntry y × HasSpelling y) same (typed, spelled);
 }
 
 -- nothing is in doubt
 pub memory_clear : (l : Ledger) → IsMemory l → IsMemory (changed l l.past.log None)
-memory_clear l m = record { logged = m.logged; carried = m.carried; doubt = λ x is. absurd (cc (is)) }
+memory_clear l m = record { logged = m.logged; carried = m.carried; begins = m.begins; floor = m.floor; doubt = λ x is. absurd (cc (is)) }

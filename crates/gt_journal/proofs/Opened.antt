@@ -1,5 +1,5 @@
 -- What is opened of a disk that may be handed in.
-use Rattle.std.proofs.Common.{◌≡◌, ◌≢◌, ℕ, ◌+◌, ◌-◌, ◌<◌, ◌≤◌, List, [], ◌∷◌, map, take, Ok, refl, sym, ◌∙◌, ap, subst, arith}
+use Rattle.std.proofs.Common.{◌≡◌, ◌≢◌, ℕ, ◌+◌, ◌-◌, ◌<◌, ◌≤◌, List, [], ◌∷◌, map, take, drop, None, Ok, refl, sym, ◌∙◌, ap, subst, arith}
 use Rattle.std.proofs.lemmas.List.{length-map}
 use Rattle.gt_disk.specs.declared.file_id.FileId.{FileId}
 use Rattle.gt_disk.specs.Files.{Files, States, View, now, IsImage, still}
@@ -27,7 +27,7 @@ use Rattle.gt_manifest.specs.declared.manifest.Manifest.{Manifest}
 use Rattle.gt_manifest.specs.declared.version.Version.TheVariants.{Second}
 use Rattle.std.specs.List.{AllByRecursion}
 use Rattle.gt_table.specs.Table.{Past, base}
-use Rattle.gt_journal.specs.Ledger.{HasManifest, HasPacksBelow, Stored}
+use Rattle.gt_journal.specs.Ledger.{HasManifest, HasPacksBelow, FilesHave, Stored}
 use Rattle.gt_journal.specs.Histories.{IsGood}
 use Rattle.gt_journal.proofs.Based.{parts_of, loaded_recovers, base_any, front_still}
 use Rattle.gt_journal.proofs.Recovering.{log_back, still_log}
@@ -68,6 +68,9 @@ pub record IsOpened (limits : Limits) (y : Loaded) (states : States) : Type 0 wh
 at_begin : (c : Content) (n : ℕ) (log : List Entry) → c ≡ after_all c (take (n - n) log)
 at_begin c n log = let none : n - n ≡ 0 = omega arith in ap (λ (k : ℕ). after_all c (take k log)) (sym none)
 
+all_left : (n : ℕ) (log : List Entry) → log ≡ drop (n - n) log
+all_left n log = let none : n - n ≡ 0 = omega arith in ap (λ (k : ℕ). drop k log) (sym none)
+
 entry_not_turn : (n : ℕ) → entry_file n ≢ turn_file
 entry_not_turn n e = let kinds : 4 ≡ 2 = ap (λ (f : FileId). f.kind) e in absurd (omega (arith, kinds))
 
@@ -104,10 +107,11 @@ module _ (limits : Limits) (v w x : View) (y : Loaded) (shows : IsImage (now v) 
       let epoch_is : y.base.manifest.epoch ≡ epoch = base_epoch epoch gate p.base in
       record {
         stored = record {
-          files = record { gate = s.gate; gate_still = others gate_file gate_not_turn ∙ s.gate_still; gate_length = s.gate_length; each = λ k lt. others (entry_file (k + first)) (entry_not_turn (k + first)) ∙ s.each k lt };
+          files = subst (λ (log : List Entry). FilesHave first log None (now x)) (all_left y.base.manifest.applied y.log)
+              (record { gate = s.gate; gate_still = others gate_file gate_not_turn ∙ s.gate_still; gate_length = s.gate_length; each = λ k lt. others (entry_file (k + first)) (entry_not_turn (k + first)) ∙ s.each k lt });
           legal = l.legal;
           within = omega (arith, p.within, l.count_is, within);
-          order = record { from = omega arith; to = omega arith; turn = tt };
+          order = record { begins = omega arith; from = omega arith; to = omega arith; turn = tt };
           base = record {
             few = omega (arith, p.few, epoch_is);
             based = y.base;

@@ -19,7 +19,7 @@ take_nothing : (n : ℕ) → take {A = Entry} n [] ≡ []
 take_nothing zero = refl
 take_nothing (suc n) = refl
 
-take_two : (a b : ℕ) (xs : List Entry) → take (a + b) xs ≡ take a xs ++ take b (drop a xs)
+pub take_two : (a b : ℕ) (xs : List Entry) → take (a + b) xs ≡ take a xs ++ take b (drop a xs)
 take_two zero b xs = ap (λ (n : ℕ). take n xs) (let e : 0 + b ≡ b = omega arith in e)
 take_two (suc a) b [] = take_nothing (suc a + b) ∙ sym (take_nothing b)
 take_two (suc a) b (x ∷ xs) = ap (λ (n : ℕ). take n (x ∷ xs)) (let e : suc a + b ≡ suc (a + b) = omega arith in e) ∙ ap (λ (l : List Entry). x ∷ l) (take_two a b xs)

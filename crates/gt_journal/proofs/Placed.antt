@@ -1,5 +1,5 @@
 -- The record that is found under a name stands at its place in the files that have the base and its log.
-use Rattle.std.proofs.Common.{◌≡◌, ℕ, ◌+◌, ◌-◌, ◌≤◌, List, [], ◌∷◌, length, map, Option, Some, None, ⊎_elim, refl, sym, ◌∙◌, ap}
+use Rattle.std.proofs.Common.{◌≡◌, ℕ, ◌+◌, ◌-◌, ◌≤◌, List, [], ◌∷◌, length, drop, map, Option, Some, None, ⊎_elim, refl, sym, ◌∙◌, ap, subst, arith}
 use Rattle.std.specs.Prelude.{◌^◌, slice_get}
 use Rattle.std.specs.Option.{option_map, option_or}
 use Rattle.std.proofs.lemmas.Option.{get_or_from_slice_get, slice_get-map, slice_get_within}
@@ -23,7 +23,7 @@ use Rattle.gt_base.specs.Held.{places_of, HoldsPacks}
 use Rattle.gt_base.specs.Spelling.{encode}
 use Rattle.gt_table.specs.Table.{base, content_at, place_at}
 use Rattle.gt_base.proofs.Contents.{base_placed}
-use Rattle.gt_journal.specs.Ledger.{Ledger, IsKept, FilesHave, HasLog, ground}
+use Rattle.gt_journal.specs.Ledger.{Ledger, past_floor, IsKept, FilesHave, HasLog, ground}
 use Rattle.gt_journal.proofs.Recovering.{kept_front}
 use Rattle.gt_journal.proofs.Typing.{entries_typed}
 use Rattle.gt_base.proofs.Packed.{based_there}
@@ -48,6 +48,12 @@ piece_is begin log states files place whole keeps shows stands =
     let there : files place.file ≡ Some (encode stands.entry) = ap files stands.file ∙ entry_there (begin + 1) log states files stands.number stands.entry keeps shows stands.there in
     ap (λ (file : FileContent). piece file place) there ∙ sym (range_is (encode stands.entry) place.at place.len) ∙ stands.stands
 
+-- where no entry is gone, each has its file
+whole_files : (l : Ledger) (states : States) → l.floor ≡ l.past.begin → FilesHave (l.floor + 1) (past_floor l) l.doubt states → FilesHave (l.past.begin + 1) l.past.log l.doubt states
+whole_files l states all files =
+    let none : l.past.begin - l.past.begin ≡ 0 = omega arith in
+    subst (λ (n : ℕ). FilesHave (l.past.begin + 1) (drop n l.past.log) l.doubt states) none (subst (λ (n : ℕ). FilesHave (n + 1) (drop (n - l.past.begin) l.past.log) l.doubt states) all files)
+
 -- what is found under a name in a sound content has that name
 found_named : (c : Content) → IsSound c → (path name whole : List ℕ) → found c path name ≡ Some whole → sha1 whole ≡ name
 found_named c sound path name whole is = by (own c path name) refl is
@@ -65,16 +71,16 @@ pub record IsHeld (files : Files) (place : Place) (name whole : List ℕ) : Type
   pub is : piece (files place.file) place ≡ whole
   pub of_name : IsRecordOf name whole
 
-pub placed_is : (l : Ledger) (states : States) (files : Files) (position : ℕ) (path name whole : List ℕ) (place : Place) → l.past.begin + 1 + length l.past.log ≤ 2 ^ 64 → HasLog l states → HoldsPacks l.past.repos states
+pub placed_is : (l : Ledger) (states : States) (files : Files) (position : ℕ) (path name whole : List ℕ) (place : Place) → l.floor ≡ l.past.begin → l.past.begin + 1 + length l.past.log ≤ 2 ^ 64 → HasLog l states → HoldsPacks l.past.repos states
     → IsSoundState (opening (ground l)) → IsImage states files → place_at l.past position path name ≡ Some place → found (content_at l.past position) path name ≡ Some whole → IsHeld files place name whole
-placed_is l states files position path name whole place few stored packs sound shows is has =
+placed_is l states files position path name whole place all few stored packs sound shows is has =
     let begin = l.past.begin in
     let log = l.past.log in
     let legal = kept_log (base l.past) (begin + 1) log l.doubt stored.legal in
     let typed = entries_typed log (base l.past) (begin + 1) few legal.0 legal.1 in
     let named = found_named (content_at l.past position) (sound.contents (position - begin)) path name whole has in
     ⊎_elim
-    (λ (in_log : StandsAt begin log place whole × (place.len ≡ length whole) × (why_not whole ≡ None)). record { is = piece_is begin log states files place whole (entries_kept (begin + 1) log l.doubt states stored.files) shows in_log.0; of_name = record { named = named; good = in_log.2 } })
+    (λ (in_log : StandsAt begin log place whole × (place.len ≡ length whole) × (why_not whole ≡ None)). record { is = piece_is begin log states files place whole (entries_kept (begin + 1) log l.doubt states (whole_files l states all stored.files)) shows in_log.0; of_name = record { named = named; good = in_log.2 } })
     (λ (based : IsBased (base l.past) (places_of l.past.repos) place whole).
     let there = based_there states l.past.repos based.path based.name whole place packs based.owned based.placed in
     record {

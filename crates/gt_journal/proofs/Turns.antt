@@ -25,7 +25,7 @@ use Rattle.gt_reading.proofs.Apart.{well_apart}
 use Rattle.gt_table.specs.Table.{content_at as content_past}
 use Rattle.gt_journal.specs.Carried.{IsMemory, IsCarriedNext}
 use Rattle.gt_journal.specs.Histories.{GivesThis, GoesSettling}
-use Rattle.gt_journal.specs.Ledger.{Ledger, state_of, applying, HasBase, HasTurn, HasManifest, HasNext, HasPacksBelow, FilesHave, Stored, Remembers, Known, known, is_based, KeepsBase}
+use Rattle.gt_journal.specs.Ledger.{Ledger, state_of, past_floor, applying, HasBase, HasTurn, HasManifest, HasNext, HasPacksBelow, FilesHave, Stored, Remembers, Known, known, is_based, KeepsBase}
 use Rattle.gt_journal.proofs.Based.{only_base, only_manifest}
 use Rattle.gt_journal.proofs.Framed.{log_kept, manifest_lasts}
 use Rattle.gt_journal.proofs.Good.{gives_turning}
@@ -99,10 +99,10 @@ module _ (l : Ledger) (to : Manifest) (doubted : l.base.doubt ≡ Some to) (memo
   -- ---- memory
 
   pub memory_counted : IsMemory counted
-  memory_counted = record { logged = memory.logged; carried = record { now = next_of.carried; later = λ x is. absurd (cc (is)) }; doubt = memory.doubt }
+  memory_counted = record { logged = memory.logged; carried = record { now = next_of.carried; later = λ x is. absurd (cc (is)) }; begins = memory.begins; floor = omega (arith, memory.floor, next_of.more); doubt = memory.doubt }
 
   pub memory_dropped : IsMemory dropped
-  memory_dropped = record { logged = memory.logged; carried = record { now = memory.carried.now; later = λ x is. absurd (cc (is)) }; doubt = memory.doubt }
+  memory_dropped = record { logged = memory.logged; carried = record { now = memory.carried.now; later = λ x is. absurd (cc (is)) }; begins = memory.begins; floor = memory.floor; doubt = memory.doubt }
 
   -- ---- the machine
 
@@ -132,8 +132,8 @@ module _ (l : Ledger) (to : Manifest) (doubted : l.base.doubt ≡ Some to) (memo
       next = subst (λ (d : Option Manifest). HasNext l.base.manifest.epoch d (now v)) doubted remembers.doubt;
     }
 
-    log_stays : (limits : Limits) (pins : List Pin) → Stored limits (state_of l pins) (now v) → FilesHave (l.past.begin + 1) l.past.log l.doubt (now w)
-    log_stays limits pins stored = log_kept (l.past.begin + 1) l.past.log l.doubt (now v) (now w) (others gate_file refl) (λ n. others (entry_file n) refl) stored.files
+    log_stays : (limits : Limits) (pins : List Pin) → Stored limits (state_of l pins) (now v) → FilesHave (l.floor + 1) (past_floor l) l.doubt (now w)
+    log_stays limits pins stored = log_kept (l.floor + 1) (past_floor l) l.doubt (now v) (now w) (others gate_file refl) (λ n. others (entry_file n) refl) stored.files
 
     -- whatever a stop leaves meanwhile gives the old state
     pub still_gives : (limits : Limits) (pins : List Pin) → Stored limits (state_of l pins) (now v) → Since (GivesThis limits (state_of l pins)) v w
@@ -147,7 +147,7 @@ module _ (l : Ledger) (to : Manifest) (doubted : l.base.doubt ≡ Some to) (memo
             files = log_stays limits before stored;
             legal = stored.legal;
             within = stored.within;
-            order = record { from = next_of.carried.from; to = next_of.carried.to; turn = tt };
+            order = record { begins = stored.order.begins; from = omega (arith, stored.order.from, next_of.more); to = next_of.carried.to; turn = tt };
             base = subst (λ (e : ℕ). HasBase limits e to.applied to.next (content_past l.past to.applied) (now w)) (sym next_of.epoch) base;
             turn = subst (λ (e : ℕ). Counts e (now w)) (sym next_of.epoch) counts.0;
           },
@@ -160,7 +160,7 @@ module _ (l : Ledger) (to : Manifest) (doubted : l.base.doubt ≡ Some to) (memo
         files = log_stays limits before stored;
         legal = stored.legal;
         within = stored.within;
-        order = record { from = stored.order.from; to = stored.order.to; turn = tt };
+        order = record { begins = stored.order.begins; from = stored.order.from; to = stored.order.to; turn = tt };
         base = base_beside_turn limits l.base.manifest.epoch l.base.manifest.applied l.base.manifest.next (content_past l.past l.base.manifest.applied) (now v) (now w) others stored.base;
         turn = settled (turns_of limits before stored remembers);
       },
@@ -175,7 +175,7 @@ module _ (l : Ledger) (to : Manifest) (doubted : l.base.doubt ≡ Some to) (memo
             files = log_stays limits before stored;
             legal = stored.legal;
             within = stored.within;
-            order = record { from = stored.order.from; to = stored.order.to; turn = stored.order.turn };
+            order = record { begins = stored.order.begins; from = stored.order.from; to = stored.order.to; turn = stored.order.turn };
             base = base_beside_turn limits l.base.manifest.epoch l.base.manifest.applied l.base.manifest.next (content_past l.past l.base.manifest.applied) (now v) (now w) others stored.base;
             turn = subst (λ (d : Option Manifest). HasTurn limits l.base.manifest.epoch (content_past l.past) (option_map applying d) (now w)) (sym doubted) (turns.turn, base);
           },

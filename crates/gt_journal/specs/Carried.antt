@@ -38,8 +38,10 @@ pub record Carries (p : Past) (next : ℕ) (b : BaseState) : Type 0 where
   pub now : IsCarried p next b.manifest
   pub later : ForSome b.doubt (IsCarriedNext p next b.manifest)
 
--- What holds of each log in memory: all of this, and the entry in doubt has the types of its fields and a spelling.
+-- What holds of each log in memory: all of this, the floor stands between where the log begins and the applied position, and the entry in doubt has the types of its fields and a spelling.
 pub record IsMemory (l : Ledger) : Type 0 where
   pub logged : IsLogged l.past
   pub carried : Carries l.past l.next l.base
+  pub begins : l.past.begin ≤ l.floor
+  pub floor : l.floor ≤ l.base.manifest.applied
   pub doubt : ForSome l.doubt (λ e. IsEntry e × HasSpelling e)

@@ -1,5 +1,5 @@
 -- A log in memory over a base, and the files that hold both.
-use Rattle.std.specs.Prelude.{◌≡◌, ℕ, ◌+◌, ◌<◌, ◌≤◌, not, ◌&&◌, nat_eq, Bool, true, List, length, map, Option, Some, None}
+use Rattle.std.specs.Prelude.{◌≡◌, ℕ, ◌+◌, ◌-◌, ◌<◌, ◌≤◌, not, ◌&&◌, nat_eq, Bool, true, List, length, drop, map, Option, Some, None}
 use Rattle.std.specs.List.{AllByRecursion}
 use Rattle.std.specs.Option.{option_map}
 use Rattle.gt_base.specs.Held.{content_of, HoldsPacks}
@@ -21,17 +21,22 @@ use Rattle.gt_model.specs.declared.entry.Entry.{Entry}
 use Rattle.gt_model.specs.declared.limits.Limits.{Limits}
 use Rattle.gt_model.specs.Contents.{Content, IsLegal}
 use Rattle.gt_model.specs.Machine as machine
-use Rattle.gt_model.specs.Machine.{Pin, State, Applying, Recovered, with_doubt, line, content_at, IsTurningIn}
+use Rattle.gt_model.specs.Machine.{Pin, State, Applying, Recovered, with_doubt, line, content_at, entries_past, IsTurningIn}
 use Rattle.gt_reading.specs.Counting.{IsTurning}
 use Rattle.gt_reading.specs.Frames.{GoesWell}
-use Rattle.gt_table.specs.Table.{Past, base, front}
+use Rattle.gt_table.specs.Table.{Past, Tables, base, front, floor}
 
--- a log over a base, and an entry that may be in it or not; the manifests of the files: the one that counts, and the next one while it may count; and the next free file number
+-- a log over a base, the position past which files have its entries, and an entry that may be in it or not; the manifests of the files: the one that counts, and the next one while it may count; and the next free file number
 pub record Ledger : Type 0 where
   pub past : Past
+  pub floor : ℕ
   pub doubt : Option Entry
   pub base : BaseState
   pub next : ℕ
+
+-- as tables have the log, and from where it is kept
+abbrev pub ledger_of : Tables → Option Entry → BaseState → ℕ → Ledger
+ledger_of t doubt b next = record { past = t.past; floor = floor t; doubt = doubt; base = b; next = next }
 
 -- what the application of a manifest comes to
 abbrev pub applying : Manifest → Applying
@@ -49,7 +54,7 @@ state_of l pins = record {
   epoch = l.base.manifest.epoch;
   manifest_next = l.base.manifest.next;
   turning = option_map applying l.base.doubt;
-  floor = l.past.begin;
+  floor = l.floor;
   next = l.next;
 }
 
@@ -60,6 +65,10 @@ ground l = record { epoch = l.base.manifest.epoch; applied = l.past.begin; next 
 -- the same over another log and another doubt
 abbrev pub changed : Ledger → List Entry → Option Entry → Ledger
 changed l log doubt = record l { past = record l.past { log = log }; doubt = doubt }
+
+-- the entries past the floor
+abbrev pub past_floor : Ledger → List Entry
+past_floor l = drop (l.floor - l.past.begin) l.past.log
 
 -- the position of the last entry
 abbrev pub front_of : Ledger → ℕ
@@ -81,9 +90,9 @@ abbrev pub FilesHave : ℕ → List Entry → Option Entry → States → Type 0
 FilesHave first log None states = Stands first (map encode log) states
 FilesHave first log (Some e) states = Doubts first (map encode log) (encode e) states
 
--- The files have the log of a ledger from where it begins, with its doubt, and it is legal and spelled.
+-- The files have the log of a ledger past its floor, with its doubt, and the whole log is legal and spelled.
 pub record HasLog (l : Ledger) (states : States) : Type 0 where
-  pub files : FilesHave (l.past.begin + 1) l.past.log l.doubt states
+  pub files : FilesHave (l.floor + 1) (past_floor l) l.doubt states
   pub legal : IsKept (base l.past) (l.past.begin + 1) (with_doubt l.past.log l.doubt)
 
 -- Whatever a stop leaves, under each gate that counts this position, the base of this epoch is read by files that are still, with this content.
@@ -105,15 +114,16 @@ abbrev pub HasTurn : Limits → ℕ → (ℕ → Content) → Option Applying �
 HasTurn limits epoch contents None states = Counts epoch states
 HasTurn limits epoch contents (Some a) states = IsTurning epoch (states turn_file) × HasBase limits (epoch + 1) a.position a.next (contents a.position) states
 
--- The applied position stands between where the log begins and the front, and one in doubt past it.
+-- The floor stands between where the log begins and the applied position, this one between the floor and the front, and one in doubt past it.
 pub record AreApplied (s : State) : Type 0 where
-  pub from : s.begin ≤ s.applied
+  pub begins : s.begin ≤ s.floor
+  pub from : s.floor ≤ s.applied
   pub to : s.applied ≤ machine.front s
   pub turn : IsTurningIn s.applied (machine.front s) s.next s.turning
 
--- The files have the log of a state, with its doubt, from where it begins; and the base of its applied position, with that in doubt.
+-- The files have the log of a state past its floor, with its doubt; and the base of its applied position, with that in doubt.
 pub record Stored (limits : Limits) (s : State) (states : States) : Type 0 where
-  pub files : FilesHave (s.begin + 1) s.log s.doubt states
+  pub files : FilesHave (s.floor + 1) (entries_past s s.floor) s.doubt states
   pub legal : IsKept s.base (s.begin + 1) (line s)
   pub within : s.begin + length (line s) ≤ limits.positions
   pub order : AreApplied s

@@ -40,6 +40,7 @@ impl Journal {
         ensures in_doubt { OnErr result (IsTrue (is_some self.old.base.doubt)) }
         ensures settled { OnOk result (self.new.base.doubt ≡ None) }
         ensures past { self.new.past ≡ self.old.past }
+        ensures floor { self.new.floor ≡ self.old.floor }
         ensures doubt { self.new.doubt ≡ self.old.doubt }
         ensures same { OnErr result (self.new ≡ self.old) }
         ensures idle { self.old.base.doubt ≡ None → disk.new ≡ disk.old }
@@ -67,10 +68,10 @@ impl Journal {
     fn has_left(&self, n: u32) -> bool
         ensures { IsTrue result ↔ (1 ≤ length (next_entries self.now n)) }
     {
-        let begin = self.table.begin();
+        let floor = self.table.floor();
         !some_behind(
             self.table.entries(),
-            self.base.manifest().applied - begin,
+            self.base.manifest().applied - floor,
             n,
         )
         .is_empty()
@@ -100,6 +101,7 @@ impl Journal {
         requires most { n ≤ 16 }
         ensures applies { (pins : List Pin) → AppliesTo limits.now (state_of self.old pins) n result (state_of self.new pins) }
         ensures past { self.new.past ≡ self.old.past }
+        ensures floor { self.new.floor ≡ self.old.floor }
         ensures doubt { self.new.doubt ≡ None }
         ensures cause { HasApplyCause (D.fault_count disk.old) (D.fault_count disk.new) result }
         ensures later { (D.view disk.old).clock ≤ (D.view disk.new).clock }
@@ -136,6 +138,7 @@ impl Journal {
         requires front { front ≡ front_of self.old }
         ensures applies { (pins : List Pin) → AppliesTo limits.now (state_of self.old pins) n result (state_of self.new pins) }
         ensures past { self.new.past ≡ self.old.past }
+        ensures floor { self.new.floor ≡ self.old.floor }
         ensures doubt { self.new.doubt ≡ None }
         ensures cause { HasApplyCause (D.fault_count disk.old) (D.fault_count disk.new) result }
         ensures later { (D.view disk.old).clock ≤ (D.view disk.new).clock }
@@ -147,10 +150,10 @@ impl Journal {
         built_entries_keep_good_pools();
         few_entries_add_few_files();
         plans_fit();
-        let begin = self.table.begin();
+        let floor = self.table.floor();
         let entries = some_behind(
             self.table.entries(),
-            self.base.manifest().applied - begin,
+            self.base.manifest().applied - floor,
             n,
         );
         match advance(alloc, disk, &mut self.base, self.next, entries) {

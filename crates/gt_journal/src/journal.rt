@@ -15,7 +15,7 @@ ghost use Rattle.gt_model.specs.Contents.{fits};
 ghost use Rattle.gt_entry.specs.Fits.{HasSpelling};
 ghost use Rattle.gt_model.specs.Machine.{Pin, SettledEntry, opening, with_entry, with_pins};
 ghost use Rattle.gt_sound.specs.Sound.{IsSoundState};
-ghost use Rattle.gt_table.specs.Table.{HasRoomFor, front, content};
+ghost use Rattle.gt_table.specs.Table.{HasRoomFor, IsUnmoved, front, floor, content};
 ghost use Rattle.gt_table.proofs.Rooms.{room_for};
 ghost use Rattle.gt_journal.specs.Ledger.{Stored, Remembers, state_of, ground, changed, front_of, doubt_after, known};
 ghost use Rattle.gt_journal.specs.Histories.{IsGood, Moves, Settling};
@@ -41,6 +41,7 @@ pub struct Journal {
     doubt: Option<Entry>,
     pub(crate) next: u64,
     ghost counts: { log.len ≡ front table.past },
+    ghost unmoved: { IsUnmoved table },
     ghost doubts: { log.in_doubt ≡ is_some doubt },
     ghost built: { ForSome doubt IsBuilt },
     ghost after: { ForSome doubt (λ entry. entry.position ≡ front table.past + 1) },
@@ -49,14 +50,14 @@ pub struct Journal {
 }
 
 impl Model for Journal {
-    ghost use Rattle.gt_journal.specs.Ledger.{Ledger};
+    ghost use Rattle.gt_journal.specs.Ledger.{Ledger, ledger_of};
     ghost use Rattle.gt_journal.specs.Carried.{IsMemory};
 
     ghost Value = { Ledger };
 
-    ghost invariant = { λ j. IsMemory (record { past = j.table.past; doubt = j.doubt; base = j.base; next = j.next }) };
+    ghost invariant = { λ j. IsMemory (ledger_of j.table j.doubt j.base j.next) };
 
-    ghost view = { λ j. record { past = j.table.past; doubt = j.doubt; base = j.base; next = j.next } };
+    ghost view = { λ j. ledger_of j.table j.doubt j.base j.next };
 }
 
 impl Journal {
@@ -73,6 +74,7 @@ impl Journal {
         ensures settled { IfOk result (λ j. j.doubt ≡ None) }
         ensures flat { IfOk result (λ j. j.base.doubt ≡ None) }
         ensures unapplied { IfOk result (λ j. j.base.manifest.applied ≡ j.past.begin) }
+        ensures whole { IfOk result (λ j. j.floor ≡ j.past.begin) }
         ensures numbered { IfOk result IsNumbered }
         ensures cause { HasCause (D.fault_count disk.old) (D.fault_count disk.new) result }
         ensures gate { IsTrue D.tells → limits.now.positions < content_length ((D.view disk.old).reads gate_file)
@@ -105,7 +107,10 @@ impl Journal {
 
     /// The entries, and what they have made at each position. An entry in doubt isn't among them.
     pub fn table(&self) -> &Table
-        ensures { result.now.past ≡ self.now.past }
+        ensures past { result.now.past ≡ self.now.past }
+        ensures floor { floor result.now ≡ self.now.floor }
+        ensures unmoved { IsUnmoved result.now }
+        ensures whole { self.now.floor ≡ self.now.past.begin }
     {
         &self.table
     }
@@ -117,6 +122,7 @@ impl Journal {
         ensures in_doubt { OnErr result (IsTrue (is_some self.old.doubt)) }
         ensures settled { OnOk result (self.new.doubt ≡ None) }
         ensures begin { self.new.past.begin ≡ self.old.past.begin }
+        ensures floor { self.new.floor ≡ self.old.floor }
         ensures known { known self.new ≡ known self.old }
         ensures longer { front_of self.old ≤ front_of self.new }
         ensures same { OnErr result (self.new ≡ self.old) }
@@ -163,6 +169,7 @@ impl Journal {
         ensures ok { OnOk result (self.new ≡ changed self.old (self.old.past.log ++ entry ∷ []) None) }
         ensures err { IfErr result (λ e. self.new ≡ changed self.old self.old.past.log (doubt_after e entry)) }
         ensures begin { self.new.past.begin ≡ self.old.past.begin }
+        ensures floor { self.new.floor ≡ self.old.floor }
         ensures known { known self.new ≡ known self.old }
         ensures longer { front_of self.old ≤ front_of self.new }
         ensures cause { HasAddCause (D.fault_count disk.old) (D.fault_count disk.new) result }

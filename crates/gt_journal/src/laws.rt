@@ -22,11 +22,11 @@ pub fn empty_disks_are_good()
     ensures { (limits : Limits) → IsGood limits (λ file. still None) }
 {}
 
-/// Whatever a stop leaves of files that have a sound base and its log holds, at the place of each object that is seen at a
+/// Where no entry is gone, whatever a stop leaves of files that have a sound base and its log holds, at the place of each object that is seen at a
 /// position, the record that is found there, which is one of that name.
 pub fn placed_records_are_held()
-    ensures held { (l : Ledger) (states : States) (image : Files) (position : ℕ) (path name whole : List ℕ) (place : Place) → l.past.begin + 1 + length l.past.log ≤ 2 ^ 64 → HasLog l states → HoldsPacks l.past.repos states → IsSoundState (opening (ground l)) → IsImage states image
+    ensures held { (l : Ledger) (states : States) (image : Files) (position : ℕ) (path name whole : List ℕ) (place : Place) → l.floor ≡ l.past.begin → l.past.begin + 1 + length l.past.log ≤ 2 ^ 64 → HasLog l states → HoldsPacks l.past.repos states → IsSoundState (opening (ground l)) → IsImage states image
         → place_at l.past position path name ≡ Some place → found (content_at l.past position) path name ≡ Some whole → piece (image place.file) place ≡ whole }
-    ensures good { (l : Ledger) (states : States) (image : Files) (position : ℕ) (path name whole : List ℕ) (place : Place) → l.past.begin + 1 + length l.past.log ≤ 2 ^ 64 → HasLog l states → HoldsPacks l.past.repos states → IsSoundState (opening (ground l)) → IsImage states image
+    ensures good { (l : Ledger) (states : States) (image : Files) (position : ℕ) (path name whole : List ℕ) (place : Place) → l.floor ≡ l.past.begin → l.past.begin + 1 + length l.past.log ≤ 2 ^ 64 → HasLog l states → HoldsPacks l.past.repos states → IsSoundState (opening (ground l)) → IsImage states image
         → place_at l.past position path name ≡ Some place → found (content_at l.past position) path name ≡ Some whole → IsRecordOf name whole }
 {}

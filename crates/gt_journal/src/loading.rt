@@ -15,7 +15,7 @@ ghost use Rattle.gt_apply.specs.Fitting.{HasGoodPools};
 ghost use Rattle.gt_entry.specs.Answers as answers;
 ghost use Rattle.gt_entry.specs.Fits.{IsEntry, HasSpelling};
 ghost use Rattle.gt_reading.specs.Reading.{run};
-ghost use Rattle.gt_table.specs.Table.{front, content};
+ghost use Rattle.gt_table.specs.Table.{IsUnmoved, front, content};
 ghost use Rattle.gt_journal.specs.Carried.{IsLogged, IsCarried};
 ghost use Rattle.gt_journal.specs.Loading.{Loads, LoadsAll, in_file};
 
@@ -42,6 +42,7 @@ pub(crate) fn load<D: Disk>(
     ensures begin { IfOk result (λ x. x.1.past.begin ≡ x.0.manifest.applied) }
     ensures numbered { IfOk result (λ x. x.2 ≡ next_past x.0.manifest.next x.1.past.log) }
     ensures count { IfOk result (λ x. log.now.len ≡ front x.1.past) }
+    ensures unmoved { IfOk result (λ x. IsUnmoved x.1) }
     ensures settled { IfOk result (λ x. x.0.doubt ≡ None) }
     ensures logged { IfOk result (λ x. IsLogged x.1.past) }
     ensures carried { IfOk result (λ x. IsCarried x.1.past x.2 x.0.manifest) }
@@ -89,6 +90,7 @@ fn read_entries<D: Disk>(
     ensures begin { IfOk result (λ x. x.0.past.begin ≡ begin) }
     ensures repos { IfOk result (λ x. x.0.past.repos ≡ repos.now) }
     ensures count { IfOk result (λ x. log.now.len ≡ front x.0.past) }
+    ensures unmoved { IfOk result (λ x. IsUnmoved x.0) }
     ensures logged { IfOk result (λ x. IsLogged x.0.past) }
     ensures numbered { IfOk result (λ x. x.1 ≡ next_past first_free x.0.past.log) }
     ensures loads { IsTrue D.tells → Loads (run (D.view disk.old).reads (entries_in (content_of repos.now) (begin + 1) (log.now.len - begin))) result }

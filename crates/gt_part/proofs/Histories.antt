@@ -147,15 +147,16 @@ counts_more first before now trail new turn is later rose counts =
 
 -- ---- the first opening
 
--- nothing is in doubt, and nothing past the base has been applied
+-- nothing is in doubt, nothing past the base has been applied, and nothing is gone
 pub record IsFresh (l : Ledger) : Type 0 where
   pub clear : l.doubt ≡ None
   pub flat : l.base.doubt ≡ None
   pub unapplied : l.base.manifest.applied ≡ l.past.begin
+  pub whole : l.floor ≡ l.past.begin
   pub numbered : IsNumbered l
 
 pub opened_stands : (l : Ledger) (pins : List Pin) → IsFresh l → pins ≡ [] → state_of l pins ≡ opening (ground l)
-opened_stands l pins fresh empty = λ i. record (opening (ground l)) { doubt = fresh.clear i; pins = empty i; applied = fresh.unapplied i; turning = option_map applying (fresh.flat i); next = fresh.numbered i }
+opened_stands l pins fresh empty = λ i. record (opening (ground l)) { doubt = fresh.clear i; pins = empty i; applied = fresh.unapplied i; floor = fresh.whole i; turning = option_map applying (fresh.flat i); next = fresh.numbered i }
 
 pub first_run : (limits : Limits) (x : View) (l : Ledger) (pins : List Pin) (trail : List Turn) → IsFresh l → pins ≡ [] → trail ≡ [] → Stored limits (opening (ground l)) (now x) → IsSoundState (opening (ground l)) → IsHistory limits (state_of l pins) x.clock [] x trail
 first_run limits x l pins trail fresh empty none stored sound =

@@ -21,7 +21,7 @@ use Rattle.gt_journal.specs.Ledger.{Ledger, HasLog, state_of, ground}
 use Rattle.gt_journal.proofs.Placed.{IsHeld, placed_is}
 use Rattle.gt_act.specs.Cat.{IsNamedSo, HeldSo, CatGives}
 
-module _ (limits : Limits) (l : Ledger) (pins : List Pin) (pin : ℕ) (name : List ℕ) (v : View) (stored : HasLog l (now v)) (packs : HoldsPacks l.past.repos (now v)) (sound : IsSoundState (opening (ground l))) (shows : IsImage (now v) v.reads) (few : l.past.begin + 1 + length l.past.log ≤ 2 ^ 64) where
+module _ (limits : Limits) (l : Ledger) (pins : List Pin) (pin : ℕ) (name : List ℕ) (v : View) (stored : HasLog l (now v)) (packs : HoldsPacks l.past.repos (now v)) (sound : IsSoundState (opening (ground l))) (shows : IsImage (now v) v.reads) (few : l.past.begin + 1 + length l.past.log ≤ 2 ^ 64) (all : l.floor ≡ l.past.begin) where
   abbrev s : State
   s = state_of l pins
 
@@ -36,7 +36,7 @@ module _ (limits : Limits) (l : Ledger) (pins : List Pin) (pin : ℕ) (name : Li
 
   -- what is held at the place of an object is its record
   held : (whole : List ℕ) (at : Place) → place ≡ Some at → seen ≡ Some whole → IsHeld v.reads at name whole
-  held whole at is has = placed_is l (now v) v.reads (pin_of s pin).position (pin_of s pin).path name whole at few stored packs sound shows is has
+  held whole at is has = placed_is l (now v) v.reads (pin_of s pin).position (pin_of s pin).path name whole at all few stored packs sound shows is has
 
   held_is : (whole w : List ℕ) (o : Option Place) → place ≡ o → seen ≡ Some whole → HeldSo o (λ at. w ≡ piece (v.reads at.file) at) → w ≡ whole
   held_is whole w None is has never = absurd never

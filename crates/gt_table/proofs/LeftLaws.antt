@@ -1,6 +1,6 @@
 -- All repositories of a base, put one by one.
-use Rattle.std.proofs.Common.{◌≡◌, ℕ, ◌+◌, ◌-◌, ◌≤◌, Bool, true, false, cond, is_some, List, [], ◌∷◌, length, take, Option, Some, None, Result, Ok, Err, OnOk, refl, sym, ap, ◌∙◌, subst, arith}
-use Rattle.std.proofs.lemmas.List.{take_all}
+use Rattle.std.proofs.Common.{◌≡◌, ℕ, ◌+◌, ◌-◌, ◌≤◌, Bool, true, false, cond, is_some, List, [], ◌∷◌, length, take, drop, Option, Some, None, Result, Ok, Err, OnOk, refl, sym, ap, ◌∙◌, subst, arith}
+use Rattle.std.proofs.lemmas.List.{take_all, drop_all}
 use Rattle.std.specs.FinMap as map
 use Rattle.std.specs.FinMap.{get-empty}
 use Rattle.std.specs.Option.{option_map, option_or}
@@ -22,7 +22,7 @@ use Rattle.gt_reftable.specs.Table as refs_table
 use Rattle.gt_reftable.specs.Table.{refs_at, IsEmpty}
 use Rattle.gt_reftext.specs.declared.packed_ref.PackedRef.{PackedRef}
 use Rattle.gt_table.specs.Seeds.{PutsRepo, PutsRefs, Left, Parts, parts_of, head_of, wanted, given}
-use Rattle.gt_table.specs.Table.{Tables, Follow, base}
+use Rattle.gt_table.specs.Table.{Tables, Follow, IsUnmoved, base, floor, content_at, entries_past}
 use Rattle.gt_base.proofs.Finding.{one_path, get-content_of}
 use Rattle.gt_base.proofs.Contents.{base_placed}
 
@@ -33,6 +33,9 @@ no_entry = []
 
 nothing_of : (n : ℕ) → take n no_entry ≡ no_entry
 nothing_of n = take_all n no_entry (let none : length no_entry ≡ 0 = refl in omega arith)
+
+dropped_none : (n : ℕ) → drop n no_entry ≡ no_entry
+dropped_none n = drop_all n no_entry (let none : length no_entry ≡ 0 = refl in omega arith)
 
 pub left_all : (begin : ℕ) (repos : List BaseRepo) (t : refs_table.Table) (o : objects_table.Table) → IsEmpty begin t → o.floor ≡ begin → objects.Agrees o nothing [] → objects.ArePlacedBy o nothing (λ path x. None) [] → Left t.floor repos repos t o
 left_all begin repos t o empty floor h placed = record {
@@ -216,13 +219,37 @@ module _ (begin : ℕ) (repos : List BaseRepo) (t : refs_table.Table) (o : objec
       back None = refl
       back (Some r) = refl
 
-pub follows : (t : Tables) (begin : ℕ) (repos : List BaseRepo) → t.past.log ≡ [] → begin ≡ t.past.begin → repos ≡ t.past.repos → Left begin [] repos t.refs t.objects
+pub follows : (t : Tables) (begin : ℕ) (repos : List BaseRepo) → t.past.log ≡ [] → begin ≡ t.past.begin → repos ≡ t.past.repos → t.gone ≡ 0 → Left begin [] repos t.refs t.objects
     → ((r : refs_table.Table) (base : Content) → r.front ≡ r.floor → ((path : List ℕ) → refs_at r r.floor path ≡ refs_in base path) → refs.Agrees r base [])
     → ((o : objects_table.Table) (base : Content) (places : List ℕ → List ℕ → Option Place) → o.front ≡ o.floor → ArePlaced base places → ((path : List ℕ) → head_at o o.floor path ≡ head_in base path)
-    → ((path x : List ℕ) → own_at o o.floor path x ≡ places path x) → objects.Agrees o base [])
+    → ((path x : List ℕ) → own_at o o.floor path x ≡ places path x) → objects.Agrees o base []) → Follow t
+follows t begin repos empty at_begin same none left refs_agree objects_agree =
+    let B : ℕ → Type 0 = λ n. Left n [] repos t.refs t.objects in
+    let R : List BaseRepo → Type 0 = λ l. Left t.past.begin [] l t.refs t.objects in
+    let h = subst R same (subst B at_begin left) in
+    let b = t.past.begin in
+    let files = t.past.repos in
+    let gone : t.gone ≡ 0 = none in
+    let from : b ≡ floor t = omega arith in
+    let no_more : base t.past ≡ content_at t.past (floor t) = sym (ap (λ (l : List Entry). after_all (base t.past) (take (floor t - b) l)) empty ∙ ap (after_all (base t.past)) (nothing_of (floor t - b))) in
+    let no_entries : [] ≡ entries_past t.past (floor t) = sym (ap (λ (l : List Entry). drop (floor t - b) l) empty ∙ dropped_none (floor t - b)) in
+    let front = h.objects_front ∙ sym h.objects_floor in
+    let heads : (path : List ℕ) → head_at t.objects t.objects.floor path ≡ head_in (base t.past) path = λ path. ap (λ n. head_at t.objects n path) h.objects_floor ∙ held_head b files t.refs t.objects h path in
+    let own : (path x : List ℕ) → own_at t.objects t.objects.floor path x ≡ places_of files path x = λ path x. ap (λ n. own_at t.objects n path x) h.objects_floor ∙ held_own b files t.refs t.objects h path x in
+    let refs_here = refs_agree t.refs (base t.past) (h.refs_front ∙ sym h.refs_floor) (λ path. ap (λ n. refs_at t.refs n path) h.refs_floor ∙ held_refs b files t.refs t.objects h path) in
+    let objects_here = objects_agree t.objects (base t.past) (places_of files) front (base_placed files) heads own in
+    record {
+      within = omega arith;
+      refs_floor = h.refs_floor ∙ from;
+      objects_floor = h.objects_floor ∙ from;
+      refs = subst (refs.Agrees t.refs (content_at t.past (floor t))) no_entries (subst (λ (c : Content). refs.Agrees t.refs c []) no_more refs_here);
+      objects = subst (objects.Agrees t.objects (content_at t.past (floor t))) no_entries (subst (λ (c : Content). objects.Agrees t.objects c []) no_more objects_here);
+    }
+
+pub unmoved_first : (t : Tables) (begin : ℕ) (repos : List BaseRepo) → t.past.log ≡ [] → begin ≡ t.past.begin → repos ≡ t.past.repos → t.gone ≡ 0 → Left begin [] repos t.refs t.objects
     → ((o : objects_table.Table) (base : Content) (places : List ℕ → List ℕ → Option Place) → o.front ≡ o.floor → ArePlaced base places → ((path : List ℕ) → head_at o o.floor path ≡ head_in base path)
-    → ((path x : List ℕ) → own_at o o.floor path x ≡ places path x) → objects.ArePlacedBy o base places []) → Follow t
-follows t begin repos empty at_begin same left refs_agree objects_agree objects_placed =
+    → ((path x : List ℕ) → own_at o o.floor path x ≡ places path x) → objects.ArePlacedBy o base places []) → IsUnmoved t
+unmoved_first t begin repos empty at_begin same none left objects_placed =
     let B : ℕ → Type 0 = λ n. Left n [] repos t.refs t.objects in
     let R : List BaseRepo → Type 0 = λ l. Left t.past.begin [] l t.refs t.objects in
     let h = subst R same (subst B at_begin left) in
@@ -231,11 +258,4 @@ follows t begin repos empty at_begin same left refs_agree objects_agree objects_
     let front = h.objects_front ∙ sym h.objects_floor in
     let heads : (path : List ℕ) → head_at t.objects t.objects.floor path ≡ head_in (base t.past) path = λ path. ap (λ n. head_at t.objects n path) h.objects_floor ∙ held_head b files t.refs t.objects h path in
     let own : (path x : List ℕ) → own_at t.objects t.objects.floor path x ≡ places_of files path x = λ path x. ap (λ n. own_at t.objects n path x) h.objects_floor ∙ held_own b files t.refs t.objects h path x in
-    record {
-      refs_floor = h.refs_floor;
-      objects_floor = h.objects_floor;
-      refs = subst (refs.Agrees t.refs (base t.past)) (sym empty)
-          (refs_agree t.refs (base t.past) (h.refs_front ∙ sym h.refs_floor) (λ path. ap (λ n. refs_at t.refs n path) h.refs_floor ∙ held_refs b files t.refs t.objects h path));
-      objects = subst (objects.Agrees t.objects (base t.past)) (sym empty) (objects_agree t.objects (base t.past) (places_of files) front (base_placed files) heads own);
-      placed = subst (objects.ArePlacedBy t.objects (base t.past) (places_of files)) (sym empty) (objects_placed t.objects (base t.past) (places_of files) front (base_placed files) heads own);
-    }
+    record { whole = none; placed = subst (objects.ArePlacedBy t.objects (base t.past) (places_of files)) (sym empty) (objects_placed t.objects (base t.past) (places_of files) front (base_placed files) heads own) }

@@ -1,4 +1,5 @@
 pub mod FollowLaws
 pub mod LeftLaws
+pub mod MovedLaws
 pub mod Rooms
 pub mod SeedLaws

@@ -1,2 +1,3 @@
+pub mod EntryLog
 pub mod Table
 pub mod Seeds

@@ -13,10 +13,12 @@ impl Look for Table {
     }
 
     fn value(&self, path: &RepoPath, name: &RefName) -> Option<Name> {
+        self.law_floor();
         self.value_at(self.front(), path, name)
     }
 
     fn visible(&self, path: &RepoPath, name: &Name) -> bool {
+        self.law_floor();
         self.place_at(self.front(), path, name).is_some()
     }
 

@@ -9,7 +9,7 @@ use Rattle.gt_act.proofs.Stepping.{at_once, released_state}
 use Rattle.gt_act.proofs.aborting.abort.Goals as goal
 
 pub invariant_of-state : goal.invariant_of-state
-invariant_of-state c = record { reads = subst (λ (pins : List Pin). ReadIn c.args.state.now.journal.past.begin (front_of c.args.state.now.journal) pins) (sym c.release.ensures) (reads_released c.args.state.now.journal.past.begin (front_of c.args.state.now.journal) c.args.state.now.live c.args.pin.now c.args.state.now.reads) }
+invariant_of-state c = record { reads = subst (λ (pins : List Pin). ReadIn c.args.state.now.journal.floor (front_of c.args.state.now.journal) pins) (sym c.release.ensures) (reads_released c.args.state.now.journal.floor (front_of c.args.state.now.journal) c.args.state.now.live c.args.pin.now c.args.state.now.reads) }
 
 pub returns-clause-step : goal.returns-clause-step
 returns-clause-step c =

@@ -4,7 +4,7 @@ use Rattle.gt_pins.proofs.Positions.{reads_later}
 use Rattle.gt_act.proofs.adding.add_entry.Goals as goal
 
 pub invariant_of-state : goal.invariant_of-state
-invariant_of-state g c = record { reads = reads_later c.args.state.now.journal.past.begin _ (front_of c.args.state.now.journal) _ c.args.state.now.live (omega (arith, c.add.ensures.begin)) c.add.ensures.longer c.args.state.now.reads }
+invariant_of-state g c = record { reads = reads_later c.args.state.now.journal.floor _ (front_of c.args.state.now.journal) _ c.args.state.now.live (omega (arith, c.add.ensures.floor)) c.add.ensures.longer c.args.state.now.reads }
 
 pub returns-in-Ok-clause-adds : goal.returns-in-Ok-clause-adds
 returns-in-Ok-clause-adds g c = (refl, c.in-Ok.ensures.added c.args.state.now.live c.args.state.now.live)

@@ -9,7 +9,7 @@ use Rattle.gt_act.proofs.Applied.{entry_same, entry_steps, entry_goes, turning_g
 use Rattle.gt_act.proofs.applying.apply.Goals as goal
 
 pub invariant_of-state : goal.invariant_of-state
-invariant_of-state g c = record { reads = reads_later c.args.state.now.journal.past.begin _ (front_of c.args.state.now.journal) _ c.args.state.now.live (omega (arith, c.settle.ensures.begin)) c.settle.ensures.longer c.args.state.now.reads }
+invariant_of-state g c = record { reads = reads_later c.args.state.now.journal.floor _ (front_of c.args.state.now.journal) _ c.args.state.now.live (omega (arith, c.settle.ensures.floor)) c.settle.ensures.longer c.args.state.now.reads }
 
 pub returns-in-Err-clause-goes : goal.returns-in-Err-clause-goes
 returns-in-Err-clause-goes g c told stored r = turning_goes c.args.limits.now _ _ _ _ (c.settle.ensures.moves told c.args.limits.now c.args.state.now.live c.args.state.now.live).0

@@ -1,13 +1,15 @@
-use Rattle.std.proofs.Common.{sym, subst, Ok, Err}
+use Rattle.std.proofs.Common.{arith, ap, Ok, Err}
 use Rattle.gt_journal.specs.declared.apply_error.ApplyError.TheVariants.{EpochFull, Failed, Memory}
 use Rattle.gt_pins.specs.Live.{ReadIn}
-use Rattle.gt_table.specs.Table.{Past, front}
+use Rattle.gt_pins.proofs.Positions.{reads_later}
+use Rattle.gt_table.specs.Table.{front}
+use Rattle.gt_journal.specs.Ledger.{front_of}
 use Rattle.gt_act.specs.PartitionState.{state_of}
 use Rattle.gt_act.proofs.Applied.{acts_by}
 use Rattle.gt_act.proofs.applying.apply_settled.Goals as goal
 
 pub invariant_of-state : goal.invariant_of-state
-invariant_of-state g c = record { reads = subst (λ (p : Past). ReadIn p.begin (front p) c.args.state.now.live) (sym c.apply.ensures.past) c.args.state.now.reads }
+invariant_of-state g c = record { reads = reads_later c.args.state.now.journal.floor _ (front_of c.args.state.now.journal) _ c.args.state.now.live (omega (arith, c.apply.ensures.floor)) (omega (arith, ap front c.apply.ensures.past)) c.args.state.now.reads }
 
 pub returns-in-Ok-clause-acts : goal.returns-in-Ok-clause-acts
 returns-in-Ok-clause-acts g c = acts_by c.args.limits.now c.args.n (state_of c.args.state.now) _ (Ok c.in-Ok.position) (c.in-Ok.ensures.applies c.args.state.now.live)

@@ -2,9 +2,10 @@ use Rattle.std.proofs.Common.{arith, sym, ap, subst, IsTrue, Option, Some, None}
 use Rattle.std.specs.Prelude.{is_some}
 use Rattle.std.specs.Option.{option_map}
 use Rattle.gt_manifest.specs.declared.manifest.Manifest.{Manifest}
-use Rattle.gt_journal.specs.Ledger.{Ledger, applying, state_of as ledger_state}
+use Rattle.gt_journal.specs.Ledger.{Ledger, front_of, applying, state_of as ledger_state}
 use Rattle.gt_pins.specs.Live.{ReadIn}
-use Rattle.gt_table.specs.Table.{Past, front}
+use Rattle.gt_pins.proofs.Positions.{reads_later}
+use Rattle.gt_table.specs.Table.{front}
 use Rattle.gt_model.specs.Machine.{State}
 use Rattle.gt_act.specs.Causes.{application_calls}
 use Rattle.gt_act.specs.PartitionState.{state_of}
@@ -12,7 +13,7 @@ use Rattle.gt_act.proofs.Applied.{turn_same, turn_acts, turn_fails, turned_goes,
 use Rattle.gt_act.proofs.applying.apply_sure.Goals as goal
 
 pub invariant_of-state : goal.invariant_of-state
-invariant_of-state g c = record { reads = subst (λ (p : Past). ReadIn p.begin (front p) c.args.state.now.live) (sym c.settle_turn.ensures.past) c.args.state.now.reads }
+invariant_of-state g c = record { reads = reads_later c.args.state.now.journal.floor _ (front_of c.args.state.now.journal) _ c.args.state.now.live (omega (arith, c.settle_turn.ensures.floor)) (omega (arith, ap front c.settle_turn.ensures.past)) c.args.state.now.reads }
 
 -- an application is in doubt where a manifest is
 doubted_of : (o : Option Manifest) → IsTrue (is_some o) → IsTrue (is_some (option_map applying o))

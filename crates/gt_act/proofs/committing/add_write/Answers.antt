@@ -9,14 +9,14 @@ use Rattle.gt_act.proofs.committing.add_write.Goals as goal
 pub invariant_of-state : goal.invariant_of-state
 invariant_of-state g c =
     let j = c.add.new.self in
-    let later = reads_later c.args.state.now.journal.past.begin j.past.begin (front_of c.args.state.now.journal) (front_of j) c.args.state.now.live (omega (arith, c.add.ensures.begin)) c.add.ensures.longer c.args.state.now.reads in
-    record { reads = subst (λ (pins : List Pin). ReadIn j.past.begin (front_of j) pins) (sym c.release.ensures) (reads_released j.past.begin (front_of j) c.args.state.now.live c.args.pin.now later) }
+    let later = reads_later c.args.state.now.journal.floor j.floor (front_of c.args.state.now.journal) (front_of j) c.args.state.now.live (omega (arith, c.add.ensures.floor)) c.add.ensures.longer c.args.state.now.reads in
+    record { reads = subst (λ (pins : List Pin). ReadIn j.floor (front_of j) pins) (sym c.release.ensures) (reads_released j.floor (front_of j) c.args.state.now.live c.args.pin.now later) }
 
 pub invariant_of-state-in-Err-Unsure : goal.invariant_of-state-in-Err-Unsure
 invariant_of-state-in-Err-Unsure g c =
     let j = c.add.new.self in
-    let later = reads_later c.args.state.now.journal.past.begin j.past.begin (front_of c.args.state.now.journal) (front_of j) c.args.state.now.live (omega (arith, c.add.ensures.begin)) c.add.ensures.longer c.args.state.now.reads in
-    record { reads = subst (λ (pins : List Pin). ReadIn j.past.begin (front_of j) pins) (sym c.release-in-Err-Unsure.ensures) (reads_released j.past.begin (front_of j) c.args.state.now.live c.args.pin.now later) }
+    let later = reads_later c.args.state.now.journal.floor j.floor (front_of c.args.state.now.journal) (front_of j) c.args.state.now.live (omega (arith, c.add.ensures.floor)) c.add.ensures.longer c.args.state.now.reads in
+    record { reads = subst (λ (pins : List Pin). ReadIn j.floor (front_of j) pins) (sym c.release-in-Err-Unsure.ensures) (reads_released j.floor (front_of j) c.args.state.now.live c.args.pin.now later) }
 
 pub returns-in-Ok-clause-adds : goal.returns-in-Ok-clause-adds
 returns-in-Ok-clause-adds g c = inl (write_adds c.args.state.now.journal c.add.new.self c.args.state.now.live _ c.args.entry c.args.pin.now _ refl c.release.ensures (c.in-Ok.ensures.added c.args.state.now.live c.release.new.self))

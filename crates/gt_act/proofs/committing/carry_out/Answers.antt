@@ -11,7 +11,7 @@ use Rattle.gt_act.proofs.Stepping.{fewer_by}
 use Rattle.gt_act.proofs.committing.carry_out.Goals as goal
 
 pub invariant_of-state : goal.invariant_of-state
-invariant_of-state g c = record { reads = subst (λ (pins : List Pin). ReadIn c.args.state.now.journal.past.begin (front_of c.args.state.now.journal) pins) (sym c.release.ensures) (reads_released c.args.state.now.journal.past.begin (front_of c.args.state.now.journal) c.args.state.now.live c.args.pin.now c.args.state.now.reads) }
+invariant_of-state g c = record { reads = subst (λ (pins : List Pin). ReadIn c.args.state.now.journal.floor (front_of c.args.state.now.journal) pins) (sym c.release.ensures) (reads_released c.args.state.now.journal.floor (front_of c.args.state.now.journal) c.args.state.now.live c.args.pin.now c.args.state.now.reads) }
 
 pub returns-in-Refused-clause-fewer : goal.returns-in-Refused-clause-fewer
 returns-in-Refused-clause-fewer g c = fewer_by c.args.state.now.live _ c.args.pin.now c.release.ensures

@@ -9,7 +9,7 @@ use Rattle.gt_act.proofs.Stepping.{then_acts, settling_moves, settled_moves, few
 use Rattle.gt_act.proofs.committing.commit.Goals as goal
 
 pub invariant_of-state : goal.invariant_of-state
-invariant_of-state g c = record { reads = reads_later c.args.state.now.journal.past.begin _ (front_of c.args.state.now.journal) _ c.args.state.now.live (omega (arith, c.settle.ensures.begin)) c.settle.ensures.longer c.args.state.now.reads }
+invariant_of-state g c = record { reads = reads_later c.args.state.now.journal.floor _ (front_of c.args.state.now.journal) _ c.args.state.now.live (omega (arith, c.settle.ensures.floor)) c.settle.ensures.longer c.args.state.now.reads }
 
 pub returns-then-is_empty-clause-fewer : goal.returns-then-is_empty-clause-fewer
 returns-then-is_empty-clause-fewer g c = fewer_by c.args.state.now.live _ c.args.pin.now c.finish.ensures.live

@@ -7,7 +7,7 @@ use Rattle.gt_act.proofs.Stepping.{then_acts, settling_moves, settled_moves}
 use Rattle.gt_act.proofs.creating.create.Goals as goal
 
 pub invariant_of-state : goal.invariant_of-state
-invariant_of-state g c = record { reads = reads_later c.args.state.now.journal.past.begin _ (front_of c.args.state.now.journal) _ c.args.state.now.live (omega (arith, c.settle.ensures.begin)) c.settle.ensures.longer c.args.state.now.reads }
+invariant_of-state g c = record { reads = reads_later c.args.state.now.journal.floor _ (front_of c.args.state.now.journal) _ c.args.state.now.live (omega (arith, c.settle.ensures.floor)) c.settle.ensures.longer c.args.state.now.reads }
 
 pub returns-in-Err-clause-moves : goal.returns-in-Err-clause-moves
 returns-in-Err-clause-moves g c told = settling_moves c.args.limits.now (state_of c.args.state.now) _ _ _ (c.settle.ensures.moves told c.args.limits.now _ _)

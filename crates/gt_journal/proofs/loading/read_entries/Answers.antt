@@ -21,7 +21,7 @@ pub loop-n-preserved : goal.loop-n-preserved
 loop-n-preserved g c =
     let past = c.loop-n.table.past in
     let e = c.in-Ok-read_entry.entry in
-    let items : c.add.new.self.past ≡ record past { log = past.log ++ e ∷ [] } = c.add.ensures ∙ ap (λ (p : Past). record p { log = p.log ++ e ∷ [] }) c.prepare.ensures.same in
+    let items : c.add.new.self.past ≡ record past { log = past.log ++ e ∷ [] } = c.add.ensures.past ∙ ap (λ (p : Past). record p { log = p.log ++ e ∷ [] }) c.prepare.ensures.same in
     let log_is : c.add.new.self.past.log ≡ past.log ++ e ∷ [] = ap (λ (p : Past). p.log) items in
     let begin_is : c.add.new.self.past.begin ≡ past.begin = ap (λ (p : Past). p.begin) items in
     let repos_is = ap (λ (p : Past). p.repos) items in
@@ -30,6 +30,7 @@ loop-n-preserved g c =
       holds = repos_is ∙ c.loop-n.invariant.holds;
       counted = omega (arith, c.loop-n.invariant.counted, begin_is, ap (λ (l : List Entry). length l) log_is, length-append past.log (e ∷ []));
       logged = subst IsLogged (sym items) (logged_push past e c.loop-n.invariant.logged (omega (arith, c.loop-n.invariant.counted, c.in-Ok-read_entry.ensures.next)) c.in-Ok-read_entry.ensures.fit c.in-Ok-read_entry.ensures.typed c.in-Ok-read_entry.ensures.spelled c.in-Ok-read_entry.ensures.built);
+      unmoved = c.add.ensures.unmoved (c.prepare.ensures.unmoved c.loop-n.invariant.unmoved);
       numbers = c.max-next.ensures ∙ ap (λ (k : ℕ). max k 1) c.loop-n.invariant.numbers ∙ sym (next_more c.args.first_free past.log c.add.new.self.past.log e c.in-Ok-read_entry.ensures.built log_is);
       later = omega (arith, c.loop-n.invariant.later, c.read_entry.ensures.later);
       faults = c.in-Ok-read_entry.ensures.cause.others (λ is. absurd (cc (is))) ∙ c.loop-n.invariant.faults;

@@ -2,7 +2,7 @@ use Rattle.std.proofs.Common.{◌≡◌, ◌≤◌, ◌+◌, ◌-◌, IsTrue}
 use Rattle.gt_base.specs.Held.{content_of}
 use Rattle.gt_disk.specs.Files.{Quiet}
 use Rattle.gt_model.specs.Batches.{next_past}
-use Rattle.gt_table.specs.Table.{front, content}
+use Rattle.gt_table.specs.Table.{IsUnmoved, front, content}
 use Rattle.gt_journal.specs.Carried.{IsLogged}
 use Rattle.gt_journal.proofs.ReadLog.{read_log, prepend}
 use Rattle.gt_journal.proofs.loading.read_entries.Given as goal
@@ -13,6 +13,7 @@ invariant-loop-n g l = record {
   holds : l.table.past.repos ≡ l.repos;
   counted : l.n ≡ front l.table.past;
   logged : IsLogged l.table.past;
+  unmoved : IsUnmoved l.table;
   numbers : l.next ≡ next_past l.first_free l.table.past.log;
   later : (g.D.Disk.view l.fn.disk).clock ≤ (g.D.Disk.view l.disk).clock;
   faults : g.D.Disk.fault_count l.disk ≡ g.D.Disk.fault_count l.fn.disk;

@@ -21,4 +21,4 @@ returns-clause-called g c = rw (← c.self.view_is) (
     let asked : Cat c.number.result c.args.name.now ≡ Cat c.args.pin.now c.args.name.now = ap (λ n. Cat n c.args.name.now) c.number.ensures in
     read_called _ _ _ _ _ _ _ _ _ _ _ _ _ _ _ asked c.note.ensures.answer e.kept c.tick-tick.ensures refl refl (c.note.ensures.opening ∙ c.take_room.ensures.opening) c.take_room.ensures.same c.note.ensures.turns tt e.happens.step e.happens.same e.happens.like (λ no. absurd (cc (no))) e.cause (λ few. omega (arith, e.counted)) (λ told stored r. (moves_quiet p.limits (memory p) v w (e.quiet told)).0) (λ told stored r. remembers_kept p.ledger p.ledger v w refl ((moves_quiet p.limits (memory p) v w (e.quiet told)).1 stored) r)
     (λ told start begin history run.
-    cat_steps p.limits _ _ _ _ v (run_stored g.D.Disk.view start begin history p run) run.2.packs (run_sound g.D.Disk.view start begin history p run) (g.met.D.Disk.shows c.self.inside.disk told) (run_few g.D.Disk.view start begin history p run (omega arith)) _ _ e.happens.step e.happens.same e.happens.named (e.gives told)))
+    cat_steps p.limits _ _ _ _ v (run_stored g.D.Disk.view start begin history p run) run.2.packs (run_sound g.D.Disk.view start begin history p run) (g.met.D.Disk.shows c.self.inside.disk told) (run_few g.D.Disk.view start begin history p run (omega arith)) e.whole _ _ e.happens.step e.happens.same e.happens.named (e.gives told)))

@@ -7,7 +7,7 @@ use Rattle.gt_table.proofs.table.Table.value_at.Goals as goal
 
 pub returns : goal.returns
 returns c =
-    let past : Past = record { begin = c.self.inside.begin; repos = c.self.inside.repos.value; log = c.self.inside.entries.0 } in
+    let past : Past = record { begin = c.self.inside.begin; repos = c.self.inside.repos.value; log = c.self.inside.entries.log } in
     let from = rw (← c.self.view_is) at c.requires.from in
     let to = rw (← c.self.view_is) at c.requires.to in
     let here = refs_there _ c.args.at c.args.path.now c.self.invariant from to in
