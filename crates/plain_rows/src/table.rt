@@ -1,7 +1,7 @@
 //! The table of a log.
 ghost use Rattle.std.specs.Prelude.{◌≡◌, ◌≤◌, ◌+◌, IsTrue};
 ghost use Rattle.gt_model.specs.Contents.{fits as is_fit};
-ghost use Rattle.gt_table.specs.Table.{front, content};
+ghost use Rattle.gt_table.specs.Table.{floor, front, content};
 
 use crate::asked::Asked;
 use crate::shown::{put_list, put_path, put_place};
@@ -54,7 +54,7 @@ pub(crate) fn row(
     question: &str,
     asked: &Asked,
 ) -> Result<(), AllocError> {
-    if asked.at < table.begin() || table.front() < asked.at {
+    if asked.at < table.floor() || table.front() < asked.at {
         return put(out, b"no such position");
     }
     match question {
@@ -67,7 +67,7 @@ pub(crate) fn row(
 }
 
 fn get(out: &mut Vec<u8>, alloc: Global, table: &Table, asked: &Asked) -> Result<(), AllocError>
-    requires from { table.now.past.begin ≤ asked.now.at }
+    requires from { floor table.now ≤ asked.now.at }
     requires to { asked.now.at ≤ front table.now.past }
 {
     match ref_of(alloc, asked.word) {
@@ -77,7 +77,7 @@ fn get(out: &mut Vec<u8>, alloc: Global, table: &Table, asked: &Asked) -> Result
 }
 
 fn list(out: &mut Vec<u8>, alloc: Global, table: &Table, asked: &Asked) -> Result<(), AllocError>
-    requires from { table.now.past.begin ≤ asked.now.at }
+    requires from { floor table.now ≤ asked.now.at }
     requires to { asked.now.at ≤ front table.now.past }
 {
     match table.list_at(alloc, asked.at, &asked.path, asked.word.as_bytes()) {
@@ -87,7 +87,7 @@ fn list(out: &mut Vec<u8>, alloc: Global, table: &Table, asked: &Asked) -> Resul
 }
 
 fn place(out: &mut Vec<u8>, table: &Table, asked: &Asked) -> Result<(), AllocError>
-    requires from { table.now.past.begin ≤ asked.now.at }
+    requires from { floor table.now ≤ asked.now.at }
     requires to { asked.now.at ≤ front table.now.past }
 {
     match name_of(asked.word) {
